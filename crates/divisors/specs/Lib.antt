@@ -1,0 +1,9 @@
+pub mod Whole
+pub mod Shared
+pub mod Fractions
+pub mod Lists
+pub mod Folding
+pub mod Settled
+pub mod Dividing
+pub mod Rows
+pub mod Written
