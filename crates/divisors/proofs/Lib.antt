@@ -25,3 +25,4 @@ pub mod Fills
 pub mod Makes
 pub mod Again
 pub mod Padded
+pub mod Lawful

@@ -22,6 +22,7 @@ use Rattle.divisors.proofs.Again.{barred-same, reduced-in-range, required-same
 use Rattle.divisors.proofs.Settles.{settled-parts}
 use Rattle.divisors.proofs.Thins.{thinned-parts}
 use Rattle.divisors.proofs.Tidies.{same-eq}
+
 -- two rows of nothing, equally long
 blank : (xs ys : List Fraction) → every (λ f. same f none) xs ≡ true → every (λ f. same f none) ys ≡ true → length xs ≡ length ys → xs ≡ ys
 blank [] [] h i e = refl

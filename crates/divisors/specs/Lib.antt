@@ -7,3 +7,4 @@ pub mod Settled
 pub mod Dividing
 pub mod Rows
 pub mod Written
+pub mod Laws

@@ -1,3 +1,4 @@
+ghost use Rattle.divisors.specs.Laws.{WorkedFolds};
 ghost use Rattle.divisors.specs.Rows.{fractions, isFolded};
 ghost use Rattle.divisors.specs.Written.{FoldOf, refusalOf, refused};
 ghost use Rattle.std.specs.Options.{Cases};
@@ -23,9 +24,12 @@ impl Folded {
     pub fn over_integers(ws: &[Fraction]) -> Result<Folded, Refusal>
         ensures refuses { λ r. ⌜ refused r ≡ refusalOf (now (ws .entry)) ⌝ }
         ensures folds { λ r. ⌜ made r (λ f. FoldOf (now (ws .entry)) (fractions (f .row))) ⌝ }
+        ensures worked { λ r. ⌜ made r (λ _. WorkedFolds) ⌝ }
     {
         check(ws)?;
-        Ok(Folded { row: folded_row(ws) })
+        Ok(Folded {
+            row: folded_row(ws),
+        })
     }
 
     // The folded list that a plain row holds, if it holds one.

@@ -1,4 +1,5 @@
 ghost use Rattle.divisors.specs.Fractions.{BySize, LowestTerms, divides, inRange, isMultiple, joinOf, lower, reduceOf, same, stripBy};
+ghost use Rattle.divisors.specs.Laws.{MultiplesMean};
 ghost use Rattle.divisors.specs.Written.{refused};
 ghost use Rattle.std.specs.Vec.{made};
 ghost use Rattle.std.specs.declared.option.Option.the-variants.{Some, None};
@@ -42,7 +43,8 @@ impl Fraction {
 
     // Whether an integer is a multiple of this fraction.
     pub fn divides(self, v: i64) -> bool
-        ensures { λ r. ⌜ r ≡ isMultiple (natAbs v) self ⌝ }
+        ensures value { λ r. ⌜ r ≡ isMultiple (natAbs v) self ⌝ }
+        ensures means { λ _. ⌜ MultiplesMean ⌝ }
     {
         is_multiple(v.unsigned_abs(), self.p, self.q)
     }

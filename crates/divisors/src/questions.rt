@@ -1,5 +1,6 @@
 ghost use Rattle.divisors.specs.Dividing.{barsNoMore, divideAll, divided};
 ghost use Rattle.divisors.specs.Fractions.{divides, isMultiple};
+ghost use Rattle.divisors.specs.Laws.{BarredLaws, OrderLaws, RequiredLaws};
 ghost use Rattle.divisors.specs.Lists.{atMost, every, soleOf, some};
 ghost use mathlib.Core.Path.{_≡_};
 use crate::fraction::Fraction;
@@ -77,7 +78,8 @@ pub(crate) fn is_divided(ys: &[Fraction], x: Fraction) -> bool
 
 // Whether each of the first list divides one of the second.
 pub(crate) fn each_divides_one(xs: &[Fraction], ys: &[Fraction]) -> bool
-    ensures { λ r. ⌜ r ≡ divideAll (now (xs .entry)) (now (ys .entry)) ⌝ }
+    ensures value { λ r. ⌜ r ≡ divideAll (now (xs .entry)) (now (ys .entry)) ⌝ }
+    ensures laws { λ _. ⌜ RequiredLaws ⌝ }
 {
     for x in xs {
         if !divides_one(*x, ys) {
@@ -89,7 +91,8 @@ pub(crate) fn each_divides_one(xs: &[Fraction], ys: &[Fraction]) -> bool
 
 // Whether each of the first list is divided by one of the second.
 pub(crate) fn each_divided_by_one(xs: &[Fraction], ys: &[Fraction]) -> bool
-    ensures { λ r. ⌜ r ≡ barsNoMore (now (xs .entry)) (now (ys .entry)) ⌝ }
+    ensures value { λ r. ⌜ r ≡ barsNoMore (now (xs .entry)) (now (ys .entry)) ⌝ }
+    ensures laws { λ _. ⌜ BarredLaws ⌝ }
 {
     for x in xs {
         if !divided_by_one(*x, ys) {
@@ -101,7 +104,8 @@ pub(crate) fn each_divided_by_one(xs: &[Fraction], ys: &[Fraction]) -> bool
 
 // The order of lists: item by item, a list that ends first being lower.
 pub(crate) fn is_up_to(xs: &[Fraction], ys: &[Fraction]) -> bool
-    ensures { λ r. ⌜ r ≡ atMost (now (xs .entry)) (now (ys .entry)) ⌝ }
+    ensures value { λ r. ⌜ r ≡ atMost (now (xs .entry)) (now (ys .entry)) ⌝ }
+    ensures laws { λ _. ⌜ OrderLaws ⌝ }
 {
     for i in 0..xs.len() {
         if i >= ys.len() {

@@ -1,5 +1,6 @@
 ghost use Rattle.divisors.specs.Dividing.{barsNoMore, divideAll};
 ghost use Rattle.divisors.specs.Fractions.{isMultiple};
+ghost use Rattle.divisors.specs.Laws.{BarredLaws, OrderLaws, RequiredLaws};
 ghost use Rattle.divisors.specs.Lists.{atMost, every, soleOf, some};
 ghost use Rattle.divisors.specs.Rows.{fractions};
 ghost use Prim.Native.Nat.{_≤_};
@@ -64,21 +65,24 @@ impl Row {
 
     // The order of rows: item by item, a row that ends first being lower.
     pub fn is_at_most(&self, other: &Row) -> bool
-        ensures { λ r. ⌜ r ≡ atMost (fractions (now (self .entry))) (fractions (now (other .entry))) ⌝ }
+        ensures value { λ r. ⌜ r ≡ atMost (fractions (now (self .entry))) (fractions (now (other .entry))) ⌝ }
+        ensures laws { λ _. ⌜ OrderLaws ⌝ }
     {
         is_up_to(self.fractions(), other.fractions())
     }
 
     // Whether each of these divides one of the other row.
     pub fn divide_all(&self, other: &Row) -> bool
-        ensures { λ r. ⌜ r ≡ divideAll (fractions (now (self .entry))) (fractions (now (other .entry))) ⌝ }
+        ensures value { λ r. ⌜ r ≡ divideAll (fractions (now (self .entry))) (fractions (now (other .entry))) ⌝ }
+        ensures laws { λ _. ⌜ RequiredLaws ⌝ }
     {
         each_divides_one(self.fractions(), other.fractions())
     }
 
     // Whether each of these is divided by one of the other row.
     pub fn bars_no_more_than(&self, other: &Row) -> bool
-        ensures { λ r. ⌜ r ≡ barsNoMore (fractions (now (self .entry))) (fractions (now (other .entry))) ⌝ }
+        ensures value { λ r. ⌜ r ≡ barsNoMore (fractions (now (self .entry))) (fractions (now (other .entry))) ⌝ }
+        ensures laws { λ _. ⌜ BarredLaws ⌝ }
     {
         each_divided_by_one(self.fractions(), other.fractions())
     }

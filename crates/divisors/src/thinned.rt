@@ -8,8 +8,8 @@ use crate::fraction::Fraction;
 use crate::refusal::Refusal;
 use crate::row::Row;
 use crate::written::check;
-use crate::written::thinned_row;
 use crate::written::is_thinned;
+use crate::written::thinned_row;
 
 // A thinned list of barred divisors.
 #[derive(Clone, Copy)]
@@ -25,7 +25,9 @@ impl Thinned {
         ensures thins { λ r. ⌜ made r (λ f. ThinOf (now (ws .entry)) (fractions (f .row))) ⌝ }
     {
         check(ws)?;
-        Ok(Thinned { row: thinned_row(ws) })
+        Ok(Thinned {
+            row: thinned_row(ws),
+        })
     }
 
     // The thinned list that a plain row holds, if it holds one.

@@ -1,5 +1,6 @@
 ghost use Prim.Native.Nat.{_*_, _%_, _<_};
 ghost use Rattle.divisors.specs.Fractions.{fitting};
+ghost use Rattle.divisors.specs.Laws.{MultiplesMean};
 ghost use Rattle.divisors.specs.Shared.{IsShared, restOf, sharedOf, stripOf};
 ghost use Rattle.divisors.specs.Whole.{IsGcd, IsLcm, gcdOf, lcmOf};
 ghost use Rattle.std.specs.Orderings.{Ranked};
@@ -59,7 +60,8 @@ pub(crate) fn stripped(a: u64, b: u64) -> Option<u64>
 
 // Whether `n * q` is a multiple of `p`, with no product: of what is left of `p` in lowest terms `n` is a multiple.
 pub(crate) fn is_multiple(n: u64, p: u64, q: u64) -> bool
-    ensures { λ r. ⌜ r ≡ eqb (n * q % p) 0 ⌝ }
+    ensures value { λ r. ⌜ r ≡ eqb (n * q % p) 0 ⌝ }
+    ensures means { λ _. ⌜ MultiplesMean ⌝ }
 {
     if p == 0 {
         return if n == 0 { true } else { q == 0 };
@@ -75,7 +77,11 @@ pub(crate) fn order(p: u64, q: u64, r: u64, s: u64) -> Ordering
         return sign(p, s);
     }
     if s == 0 {
-        return if r == 0 { Ordering::Equal } else { Ordering::Less };
+        return if r == 0 {
+            Ordering::Equal
+        } else {
+            Ordering::Less
+        };
     }
     let a = p / q;
     let b = r / s;

@@ -1,6 +1,5 @@
 ghost use Prim.Native.Nat.{_≤_};
-ghost use Rattle.divisors.specs.Fractions.{inRange};
-ghost use Rattle.divisors.specs.Lists.{every};
+ghost use Rattle.divisors.specs.Laws.{WorkedFolds};
 ghost use Rattle.divisors.specs.Rows.{fractions, isFolded, isThinned};
 ghost use Rattle.divisors.specs.Written.{FoldOf, ThinOf, areInRange, refusalOf, refused};
 ghost use Rattle.std.specs.Orderings.{Decides};
@@ -43,6 +42,7 @@ pub(crate) fn folded_row(ws: &[Fraction]) -> Row
     requires { ⌜ areInRange (now ws) ≡ true ⌝ ∗ ⌜ length (now ws) ≤ 6 ⌝ }
     ensures folds { λ r. ⌜ FoldOf (now (ws .entry)) (fractions r) ⌝ }
     ensures kept { λ r. ⌜ isFolded r ≡ true ⌝ }
+    ensures worked { λ _. ⌜ WorkedFolds ⌝ }
 {
     let mut work = Working::new();
     work.fill(ws, 1);
