@@ -1,6 +1,6 @@
 -- From divisors as written to the lists that are kept, and what is refused.
 use mathlib.Core.Path.{_≡_}
-use mathlib.Core.Bool.{Bool, cond}
+use mathlib.Core.Bool.{Bool, cond, _&&_}
 use mathlib.Core.List.{List, map}
 use mathlib.Core.Logic.{_↔_}
 use Prim.Native.Nat.{ℕ}
@@ -36,6 +36,10 @@ areInRange ws = every inRange ws
 -- what is refused of divisors as written: 5 where a part is 0 or above 2^63 - 1; else 6 where there are more than six
 abbrev pub refusalOf : List Fraction → Option ℕ
 refusalOf ws = cond (areInRange ws) (cond (leb (length ws) 6) None (Some 6)) (Some 5)
+
+-- what is refused of required and barred divisors as written: 5 of either list before 6 of either
+abbrev pub refusalOfBoth : List Fraction → List Fraction → Option ℕ
+refusalOfBoth rs bs = cond (areInRange rs && areInRange bs) (cond (leb (length rs) 6 && leb (length bs) 6) None (Some 6)) (Some 5)
 
 -- in lowest terms, those with a numerator above n
 abbrev pub lowestAbove : ℕ → List Fraction → List Fraction

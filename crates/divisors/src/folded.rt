@@ -8,7 +8,7 @@ ghost use mathlib.Core.Path.{_≡_};
 use crate::fraction::Fraction;
 use crate::refusal::Refusal;
 use crate::row::Row;
-use crate::written::check;
+use crate::written::check_list;
 use crate::written::folded_row;
 use crate::written::is_folded;
 
@@ -26,7 +26,7 @@ impl Folded {
         ensures folds { λ r. ⌜ made r (λ f. FoldOf (now (ws .entry)) (fractions (f .row))) ⌝ }
         ensures worked { λ r. ⌜ made r (λ _. WorkedFolds) ⌝ }
     {
-        check(ws)?;
+        check_list(ws)?;
         Ok(Folded {
             row: folded_row(ws),
         })

@@ -16,3 +16,4 @@ pub use fraction::Fraction;
 pub use refusal::Refusal;
 pub use row::Row;
 pub use thinned::Thinned;
+pub use written::check;

@@ -7,7 +7,7 @@ ghost use mathlib.Core.Path.{_≡_};
 use crate::fraction::Fraction;
 use crate::refusal::Refusal;
 use crate::row::Row;
-use crate::written::check;
+use crate::written::check_list;
 use crate::written::is_thinned;
 use crate::written::thinned_row;
 
@@ -24,7 +24,7 @@ impl Thinned {
         ensures refuses { λ r. ⌜ refused r ≡ refusalOf (now (ws .entry)) ⌝ }
         ensures thins { λ r. ⌜ made r (λ f. ThinOf (now (ws .entry)) (fractions (f .row))) ⌝ }
     {
-        check(ws)?;
+        check_list(ws)?;
         Ok(Thinned {
             row: thinned_row(ws),
         })

@@ -1,7 +1,7 @@
 ghost use Prim.Native.Nat.{_≤_};
 ghost use Rattle.divisors.specs.Laws.{WorkedFolds};
 ghost use Rattle.divisors.specs.Rows.{fractions, isFolded, isThinned};
-ghost use Rattle.divisors.specs.Written.{FoldOf, ThinOf, areInRange, refusalOf, refused};
+ghost use Rattle.divisors.specs.Written.{FoldOf, ThinOf, areInRange, refusalOf, refusalOfBoth, refused};
 ghost use Rattle.std.specs.Orderings.{Decides};
 ghost use lib.ListN.{length};
 ghost use mathlib.Core.Bool.{true};
@@ -25,13 +25,32 @@ fn all_in_range(ws: &[Fraction]) -> bool
 }
 
 // What is refused of divisors as written.
-pub(crate) fn check(ws: &[Fraction]) -> Result<(), Refusal>
+pub(crate) fn check_list(ws: &[Fraction]) -> Result<(), Refusal>
     ensures { λ r. ⌜ refused r ≡ refusalOf (now (ws .entry)) ⌝ }
 {
     if !all_in_range(ws) {
         return Err(Refusal::OutOfRange);
     }
     if ws.len() > PLACES {
+        return Err(Refusal::TooMany);
+    }
+    Ok(())
+}
+
+// What is refused of required and barred divisors as written: 5 of either list before 6 of either.
+pub fn check(required: &[Fraction], barred: &[Fraction]) -> Result<(), Refusal>
+    ensures { λ r. ⌜ refused r ≡ refusalOfBoth (now (required .entry)) (now (barred .entry)) ⌝ }
+{
+    if !all_in_range(required) {
+        return Err(Refusal::OutOfRange);
+    }
+    if !all_in_range(barred) {
+        return Err(Refusal::OutOfRange);
+    }
+    if required.len() > PLACES {
+        return Err(Refusal::TooMany);
+    }
+    if barred.len() > PLACES {
         return Err(Refusal::TooMany);
     }
     Ok(())

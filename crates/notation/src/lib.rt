@@ -34,15 +34,15 @@ pub fn find(text: &[u8], c: u8) -> usize
     text.len()
 }
 
-// The text before place `i`.
-fn front(text: &[u8], i: usize) -> &[u8]
+// The text before place `i`, all of it where `i` lies past its end.
+pub fn front(text: &[u8], i: usize) -> &[u8]
     ensures { λ r. ⌜ now r ≡ take i (now (text .entry)) ⌝ }
 {
     if i < text.len() { &text[0..i] } else { text }
 }
 
-// The text behind place `i`.
-fn behind(text: &[u8], i: usize) -> &[u8]
+// The text behind place `i`, empty where `i` lies past its end.
+pub fn behind(text: &[u8], i: usize) -> &[u8]
     ensures { λ r. ⌜ now r ≡ drop (i + 1) (now (text .entry)) ⌝ }
 {
     if i < text.len() {
