@@ -20,6 +20,7 @@ use std::io::Read;
 use std::io::Write;
 
 const LINE_FEED: u8 = 10;
+
 const SPACE: u8 = 32;
 
 // What is wrong with a line's text.
@@ -161,7 +162,10 @@ fn fold_all<W: Write>(heap: Global, text: &[u8], out: &mut W) -> io::Result<()> 
     let folded = tally.folded;
     let refused = tally.refused;
     let malformed = tally.malformed;
-    write!(out, "folded {folded}, refused {refused}, malformed {malformed}\n")
+    write!(
+        out,
+        "folded {folded}, refused {refused}, malformed {malformed}\n"
+    )
 }
 
 fn main(rt: LibcRuntime) -> io::Result<()> {
@@ -170,4 +174,48 @@ fn main(rt: LibcRuntime) -> io::Result<()> {
     let mut out = BufWriter::new(rt.stdout());
     fold_all(rt.alloc(), &text, &mut out)?;
     out.flush()
+}
+
+#[cfg(test)]
+mod tests {
+    use super::*;
+    use std::test::Fail;
+    use std::test::check;
+
+    const LARGEST: u64 = 0x7fff_ffff_ffff_ffff;
+
+    #[test]
+    fn parts_to_the_limit() -> Result<(), Fail> {
+        let largest = Fraction { p: LARGEST, q: 1 };
+        let over = Fraction {
+            p: LARGEST + 1,
+            q: 1,
+        };
+        let two = Fraction { p: 2, q: 1 };
+        check(largest.reduced().is_ok())?;
+        check(over.reduced().is_err())?;
+        check(largest.checked_lcm(largest).is_some())?;
+        check(largest.checked_lcm(two).is_none())
+    }
+
+    #[test]
+    fn multiples_at_both_ends() -> Result<(), Fail> {
+        let half = Fraction { p: 1 << 62, q: 2 };
+        check(half.divides(i64::MIN))?;
+        check(!half.divides(i64::MAX))
+    }
+
+    #[test]
+    fn five_before_six() -> Result<(), Fail> {
+        let seven = [Fraction { p: 2, q: 1 }; 7];
+        let zero = [Fraction { p: 0, q: 1 }];
+        let Err(five) = divisors::check(&seven, &zero) else {
+            return Err(Fail::new("taken"));
+        };
+        let Err(six) = divisors::check(&seven, &seven) else {
+            return Err(Fail::new("taken"));
+        };
+        check(number(five) == 5)?;
+        check(number(six) == 6)
+    }
 }
