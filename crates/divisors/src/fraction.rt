@@ -53,10 +53,10 @@ impl Fraction {
     pub fn divides_divisor(self, other: Fraction) -> bool
         ensures { λ r. ⌜ r ≡ divides self other ⌝ }
     {
-        if self.p == 0 {
+        if other.q == 0 {
             return false;
         }
-        if other.q == 0 {
+        if self.p == 0 {
             return false;
         }
         if other.p % self.p != 0 {

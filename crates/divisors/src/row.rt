@@ -34,8 +34,9 @@ impl Row {
         ensures list { λ r. ⌜ now r ≡ fractions (now (self .entry)) ⌝ }
         ensures few { λ r. ⌜ length (now r) ≤ 6 ⌝ }
     {
+        let few = self.count < PLACES;
         let _first = self.items[0];
-        if self.count < PLACES {
+        if few {
             &self.items[0..self.count]
         } else {
             &self.items
