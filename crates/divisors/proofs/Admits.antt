@@ -1,8 +1,8 @@
 -- A folded row admits what the written one admits.
-use mathlib.Core.Path.{_≡_, refl, sym, ap, subst, _∙_}
+use mathlib.Core.Path.{_≡_, sym, subst}
 use mathlib.Core.Logic.{_↔_, ⊎-elim}
-use mathlib.Core.List.{List, [], _∷_}
-use Prim.Native.Nat.{ℕ, suc, _+_, _<_}
+use mathlib.Core.List.{List}
+use Prim.Native.Nat.{ℕ, suc, _<_}
 use native.Mathlib.Omega.{arith}
 use lib.ListN.{length, getD, set, take, drop}
 use Rattle.std.specs.shelf.Lists.{All, removed}
@@ -14,7 +14,6 @@ use Rattle.divisors.specs.declared.folding.Strip.{Strip}
 use Rattle.divisors.specs.declared.fraction.Fraction.{Fraction}
 use Rattle.divisors.specs.Folding.{FirstJoin, FirstStrip, FoldsTo, done, joined, joinedBy, stripped, strippedBy}
 use Rattle.divisors.specs.Fractions.{Multiple, Reduced, none}
-use Rattle.divisors.specs.Lists.{tidyOf}
 use Rattle.divisors.proofs.Joins.{join-reduced, step-admits}
 use Rattle.divisors.proofs.Strips.{strip-reduced, strip-multiple}
 use Rattle.divisors.proofs.Tidies.{tidy-in, tidy-out}

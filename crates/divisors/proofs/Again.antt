@@ -1,25 +1,24 @@
 -- A kept list made again is the same list: so a row is tested by making it again.
-use mathlib.Core.Path.{_≡_, refl, sym, ap, subst, _∙_}
-use mathlib.Core.Logic.{_⊎_, inl, inr, ⊎-elim}
-use mathlib.Core.Bool.{Bool, true, false, cond, _&&_, not}
+use mathlib.Core.Path.{_≡_, refl, sym, ap, _∙_}
+use mathlib.Core.Logic.{_⊎_, ⊎-elim}
+use mathlib.Core.Bool.{Bool, true, cond, _&&_, not}
 use mathlib.Core.List.{List, [], _∷_, _++_, map}
 use Prim.Native.Nat.{ℕ, zero, suc, _/_, _^_, _<_}
 use native.Mathlib.Nat.{div-one}
 use native.Mathlib.Omega.{arith}
 use lib.Dec.{ltb}
 use lib.ListN.{length, getD}
-use Rattle.std.specs.Options.{isSome}
 use Rattle.std.specs.declared.option.Option.the-variants.{None}
 use Rattle.std.specs.shelf.Lists.{All, kept-by}
 use Rattle.std.proofs.shelf.Elements.{all-append, all-getD}
 use Rattle.std.proofs.shelf.Lists.{append-assoc, append-nil}
-use Rattle.std.proofs.shelf.Tests.{and-from, and-parts, cases-order, cond-true, lt-ltb}
+use Rattle.std.proofs.shelf.Tests.{and-from, cases-order, cond-true, lt-ltb}
 use Rattle.divisors.specs.declared.fraction.Fraction.{Fraction}
-use Rattle.divisors.specs.Dividing.{divided, thin, thinOf, thinned}
+use Rattle.divisors.specs.Dividing.{divided, thinOf, thinned}
 use Rattle.divisors.specs.Folding.{NoJoin, NoStrip, done, foldOf}
-use Rattle.divisors.specs.Fractions.{Reduced, inRange, joinOf, lower, none, reduceOf, same, stripBy}
-use Rattle.divisors.specs.Lists.{ascends, every, put, putAll, tidyOf}
-use Rattle.divisors.specs.Settled.{areMore, areReduced, firm, joinless, settled, stripless}
+use Rattle.divisors.specs.Fractions.{Reduced, inRange, joinOf, lower, none, reduceOf, same}
+use Rattle.divisors.specs.Lists.{put, putAll, tidyOf}
+use Rattle.divisors.specs.Settled.{firm, settled}
 use Rattle.divisors.specs.Written.{areInRange, barredOf, lowestAbove, overIntegers, requiredOf}
 use Rattle.divisors.proofs.Ascends.{Lower, put-is, puts}
 use Rattle.divisors.proofs.Folds.{folds-to}

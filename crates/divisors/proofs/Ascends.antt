@@ -3,7 +3,7 @@ use mathlib.Core.Path.{_≡_, refl, sym, ap, subst, _∙_}
 use mathlib.Core.Logic.{_⊎_, inl, inr}
 use mathlib.Core.Bool.{Bool, true, false, cond, _&&_}
 use mathlib.Core.List.{List, [], _∷_}
-use Prim.Native.Nat.{ℕ, zero, suc, _*_, _<_}
+use Prim.Native.Nat.{ℕ, suc}
 use native.Mathlib.Omega.{arith}
 use lib.Dec.{ltb, eqb}
 use lib.ListN.{length, getD}
@@ -12,7 +12,7 @@ use Rattle.std.proofs.shelf.Tests.{and-parts, and-from, both-ways, cases-bool, 
 use Rattle.std.proofs.shelf.Ways.{tells}
 use Rattle.divisors.specs.declared.fraction.Fraction.{Fraction}
 use Rattle.divisors.specs.Fractions.{Reduced, lower, none, same}
-use Rattle.divisors.specs.Lists.{ascends, placeOf, put, putAll, stands, tidyOf}
+use Rattle.divisors.specs.Lists.{ascends, placeOf, put, putAll, tidyOf}
 use Rattle.divisors.proofs.Lower.{lower-tie, lower-trans}
 use Rattle.divisors.proofs.Members.{Pairs}
 use Rattle.divisors.proofs.Tidies.{put-in}

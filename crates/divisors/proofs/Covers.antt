@@ -1,13 +1,13 @@
 -- The cover relation of rows.
-use mathlib.Core.Path.{_≡_, refl, sym, ap, subst, _∙_}
-use mathlib.Core.Bool.{Bool, true, false}
-use mathlib.Core.List.{List, [], _∷_}
+use mathlib.Core.Path.{_≡_, sym, subst}
+use mathlib.Core.Bool.{true}
+use mathlib.Core.List.{List}
 use Prim.Native.Nat.{ℕ}
 use Rattle.std.specs.shelf.Lists.{All}
 use Rattle.divisors.specs.declared.fraction.Fraction.{Fraction}
 use Rattle.divisors.specs.Dividing.{barsNoMore, divideAll}
 use Rattle.divisors.specs.Fractions.{Multiple, Reduced, divides}
-use Rattle.divisors.specs.Lists.{every, some}
+use Rattle.divisors.specs.Lists.{some}
 use Rattle.divisors.proofs.Lower.{lower-irr, lower-asym}
 use Rattle.divisors.proofs.Ascends.{Lower}
 use Rattle.divisors.proofs.Members.{Multiples, NoMultiples, In, Pairs, all-in, in-all, every-in, in-every, some-in, in-some, pairs-unique}

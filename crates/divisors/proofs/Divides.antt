@@ -1,13 +1,11 @@
 -- One divisor divides another: the test, and its laws.
-use mathlib.Core.Path.{_≡_, refl, sym, ap, subst, _∙_}
-use mathlib.Core.Logic.{_⊎_, inl, inr}
-use mathlib.Core.Bool.{Bool, true, false, _&&_}
-use Prim.Native.Nat.{ℕ, _*_, _%_, _≤_, _<_, _∣_}
-use native.Mathlib.Nat.{dvd-refl, dvd-trans, dvd-antisymm, dvd-mul-left, dvd-mul-right, mul-comm, mul-dvd-mul, mod-eq-zero-of-dvd, dvd-of-mod-eq-zero, le-of-dvd, pos-of-dvd-of-pos, mul-pos}
+use mathlib.Core.Path.{_≡_, subst, _∙_}
+use mathlib.Core.Bool.{true, _&&_}
+use Prim.Native.Nat.{ℕ, _%_, _≤_, _∣_}
+use native.Mathlib.Nat.{dvd-refl, dvd-trans, dvd-antisymm, dvd-mul-left, dvd-mul-right, mul-comm, mul-dvd-mul, mod-eq-zero-of-dvd, dvd-of-mod-eq-zero, le-of-dvd}
 use native.Mathlib.Omega.{arith}
 use lib.Dec.{ltb, eqb, leb}
 use Rattle.std.specs.Orderings.{Decides}
-use Rattle.std.specs.declared.option.Option.{Option}
 use Rattle.std.specs.declared.option.Option.the-variants.{Some, None}
 use Rattle.std.proofs.shelf.Tests.{and-parts, and-from, lt-ltb, eqb-true, eq-eqb, le-leb, cond-true}
 use Rattle.divisors.specs.declared.fraction.Fraction.{Fraction}

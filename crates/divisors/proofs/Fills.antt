@@ -1,14 +1,14 @@
 -- Filling a row with written divisors, and taking it out.
-use mathlib.Core.Path.{_≡_, refl, sym, ap, subst, _∙_}
-use mathlib.Core.Bool.{Bool, true, false, cond, _&&_}
-use mathlib.Core.List.{List, [], _∷_, _++_, map}
-use Prim.Native.Nat.{ℕ, suc, _+_, _^_, _≤_, _<_}
+use mathlib.Core.Path.{_≡_, sym, ap, subst, _∙_}
+use mathlib.Core.Bool.{true, cond, _&&_}
+use mathlib.Core.List.{List, _∷_}
+use Prim.Native.Nat.{ℕ, _+_, _^_, _≤_, _<_}
 use native.Mathlib.Omega.{arith}
-use lib.Dec.{ltb, leb, eqb}
+use lib.Dec.{ltb}
 use lib.ListN.{length, getD, take, drop, set}
 use Rattle.std.specs.shelf.Lists.{All}
-use Rattle.std.proofs.shelf.Lists.{at-drop-more, at-drop-all, drop-more, drop-set-lt, take-more, take-more-set, length-set}
-use Rattle.std.proofs.shelf.Tests.{and-parts, and-from, cond-true, cond-false, ltb-true, lt-ltb, le-ltb, le-leb, eq-eqb}
+use Rattle.std.proofs.shelf.Lists.{at-drop-more, at-drop-all, drop-set-lt}
+use Rattle.std.proofs.shelf.Tests.{and-parts, cond-true, cond-false, ltb-true, lt-ltb, le-ltb}
 use Rattle.divisors.specs.declared.fraction.Fraction.{Fraction}
 use Rattle.divisors.specs.Fractions.{InRange, inRange, none, reduceOf, same}
 use Rattle.divisors.specs.Lists.{every, put, putAll, tidyOf}

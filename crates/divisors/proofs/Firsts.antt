@@ -1,8 +1,7 @@
 -- What a search finds first; the first join and the first strip.
 use mathlib.Core.Path.{_≡_, refl, sym, ap, subst, _∙_}
-use mathlib.Core.Logic.{_⊎_, inl, inr, ⊎-elim}
-use mathlib.Core.Bool.{Bool, true, false, cond}
-use mathlib.Core.List.{List, [], _∷_}
+use mathlib.Core.Logic.{_⊎_, ⊎-elim}
+use mathlib.Core.List.{List}
 use Prim.Native.Nat.{ℕ, zero, suc, _+_, _-_, _≤_, _<_}
 use native.Mathlib.Omega.{arith}
 use lib.Dec.{eqb}
@@ -10,7 +9,7 @@ use lib.ListN.{length, getD}
 use Rattle.std.specs.Options.{Cases, mapped}
 use Rattle.std.specs.declared.option.Option.{Option}
 use Rattle.std.specs.declared.option.Option.the-variants.{Some, None}
-use Rattle.std.proofs.shelf.Tests.{cases-order, cases-eq, cases-bool, cond-false, cond-true, cond-both, eq-eqb, ne-eqb, eqb-false}
+use Rattle.std.proofs.shelf.Tests.{cases-order, cases-eq, cond-false, cond-both, ne-eqb, eqb-false}
 use Rattle.std.proofs.shelf.Results.{cases-at-some, cases-at-none}
 use Rattle.divisors.specs.declared.folding.Pair.{Pair}
 use Rattle.divisors.specs.declared.folding.Strip.{Strip}

@@ -1,7 +1,7 @@
 -- The laws of the greatest common divisor and the least common multiple.
 use mathlib.Core.Path.{_≡_, refl, sym, ap, subst, _∙_}
 use Prim.Native.Nat.{ℕ, zero, suc, _+_, _*_, _/_, _%_, _≤_, _<_, _∣_}
-use native.Mathlib.Nat.{dvd-refl, dvd-zero, dvd-trans, dvd-add, dvd-add-iff-left, dvd-mod-iff, dvd-antisymm, dvd-mul-left, dvd-mul-right, dvd-mul-right-of-dvd, mod-lt, mod-add-div, add-mul, mul-assoc, mul-comm, mul-one, one-mul, mul-right-comm, zero-lt-suc, zero-div, zero-mul, not-suc-le-zero, le-of-suc-le-suc, mul-dvd-mul-left, mul-dvd-mul-right, dvd-of-mul-dvd-mul-left, pos-of-dvd-of-pos, div-mul-cancel, mul-div-cancel', dvd-of-mul-dvd-mul-right, eq-one-of-dvd-one}
+use native.Mathlib.Nat.{dvd-refl, dvd-zero, dvd-add-iff-left, dvd-mod-iff, dvd-antisymm, dvd-mul-left, dvd-mul-right, dvd-mul-right-of-dvd, mod-lt, mod-add-div, add-mul, mul-assoc, mul-comm, mul-one, one-mul, mul-right-comm, zero-lt-suc, zero-div, zero-mul, not-suc-le-zero, mul-dvd-mul-left, mul-dvd-mul-right, dvd-of-mul-dvd-mul-left, pos-of-dvd-of-pos, div-mul-cancel, mul-div-cancel', dvd-of-mul-dvd-mul-right, eq-one-of-dvd-one}
 use native.Mathlib.Omega.{arith}
 use lib.Dec.{leb}
 use Rattle.std.proofs.shelf.Tests.{cond-true, cond-false, le-leb, lt-leb}

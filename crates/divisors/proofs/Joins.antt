@@ -2,23 +2,22 @@
 use mathlib.Core.Path.{_≡_, refl, sym, ap, subst, _∙_}
 use mathlib.Core.Logic.{_↔_, ⊎-elim}
 use mathlib.Core.Bool.{Bool, true, false, cond}
-use mathlib.Core.List.{List, [], _∷_}
-use Prim.Native.Nat.{ℕ, suc, _+_, _-_, _*_, _^_, _≤_, _<_, _∣_}
-use native.Mathlib.Nat.{dvd-refl, dvd-trans, dvd-mul-left, dvd-mul-right, dvd-mul-right-of-dvd, eq-one-of-dvd-one, mul-pos, le-of-dvd, pos-of-dvd-of-pos}
+use mathlib.Core.List.{List}
+use Prim.Native.Nat.{ℕ, _+_, _-_, _*_, _≤_, _<_, _∣_}
+use native.Mathlib.Nat.{dvd-trans, dvd-mul-left, dvd-mul-right, dvd-mul-right-of-dvd, eq-one-of-dvd-one, mul-pos, le-of-dvd, pos-of-dvd-of-pos}
 use native.Mathlib.Omega.{arith}
 use lib.Dec.{leb}
 use lib.ListN.{length, getD, set}
-use Rattle.std.specs.declared.option.Option.{Option}
 use Rattle.std.specs.declared.option.Option.the-variants.{Some, None}
 use Rattle.std.specs.shelf.Lists.{removed}
-use Rattle.std.proofs.shelf.Tests.{cases-bool, cases-eq, cases-lt, leb-true, cond-true, cond-false}
+use Rattle.std.proofs.shelf.Tests.{cases-eq, cases-lt, leb-true}
 use Rattle.std.proofs.shelf.Lists.{getD-set-same, getD-set-other, length-set}
 use Rattle.std.proofs.shelf.Edits.{length-removed, getD-removed-below, getD-removed-above}
 use Rattle.divisors.specs.declared.folding.Pair.{Pair}
 use Rattle.divisors.specs.declared.fraction.Fraction.{Fraction}
 use Rattle.divisors.specs.Folding.{FirstJoin}
 use Rattle.divisors.specs.Fractions.{Multiple, Reduced, joinOf, none}
-use Rattle.divisors.specs.Whole.{IsGcd, IsLcm, gcdOf, lcmOf}
+use Rattle.divisors.specs.Whole.{gcdOf, lcmOf}
 use Rattle.divisors.proofs.Gcds.{gcd-is, gcd-comm, gcd-pos, lcm-is, coprime-divides}
 
 pub one-if : (p q d : ℕ) → gcdOf p q ≡ 1 → d ∣ p → d ∣ q → d ≡ 1

@@ -1,17 +1,17 @@
 -- The kept rows admit and bar what the written divisors do.
 use mathlib.Core.Path.{_≡_, refl, sym, ap, subst, _∙_}
-use mathlib.Core.Logic.{_⊎_, inl, inr, ⊎-elim, _↔_}
-use mathlib.Core.Bool.{Bool, true, false, cond}
+use mathlib.Core.Logic.{_↔_}
+use mathlib.Core.Bool.{true, false}
 use mathlib.Core.List.{List, [], _∷_, map}
-use Prim.Native.Nat.{ℕ, zero, suc, _+_, _*_, _/_, _^_, _≤_, _<_, _∣_}
-use native.Mathlib.Nat.{mul-comm, mul-assoc, mul-one, one-dvd, div-mul-cancel, mul-div-cancel', pos-of-dvd-of-pos, dvd-mul-left, mul-dvd-mul-right, dvd-of-mul-dvd-mul-right, div-le-self, dvd-antisymm, eq-one-of-dvd-one}
+use Prim.Native.Nat.{ℕ, _*_, _/_, _≤_, _∣_}
+use native.Mathlib.Nat.{one-dvd, div-le-self}
 use native.Mathlib.Omega.{arith}
 use lib.Dec.{ltb}
 use Rattle.std.specs.shelf.Lists.{All, kept-by}
-use Rattle.std.proofs.shelf.Elements.{all-kept-by, kept-by-passes}
+use Rattle.std.proofs.shelf.Elements.{all-kept-by}
 use Rattle.std.proofs.shelf.Tests.{ltb-true, ltb-false, lt-ltb, cond-both, cond-true}
 use Rattle.divisors.specs.declared.fraction.Fraction.{Fraction}
-use Rattle.divisors.specs.Dividing.{thinOf, thinned}
+use Rattle.divisors.specs.Dividing.{thinned}
 use Rattle.divisors.specs.Folding.{foldOf}
 use Rattle.divisors.specs.Fractions.{InRange, Multiple, Reduced, reduceOf}
 use Rattle.divisors.specs.Lists.{tidyOf}

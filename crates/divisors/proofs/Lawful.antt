@@ -1,18 +1,13 @@
 -- The laws of kept lists, gathered, and the worked folds, computed.
-use mathlib.Core.Path.{_≡_, refl, sym, ap, subst, _∙_}
+use mathlib.Core.Path.{refl}
 use mathlib.Core.Logic.{_⊎_, inl, inr, ⊎-elim}
-use mathlib.Core.Bool.{Bool, true, false}
-use mathlib.Core.List.{List, [], _∷_}
-use Prim.Native.Nat.{ℕ, _*_, _%_}
+use Prim.Native.Nat.{_*_, _%_}
 use native.Mathlib.Nat.{dvd-of-mod-eq-zero, mod-eq-zero-of-dvd}
-use lib.IntN.{ℤ, natAbs}
+use lib.IntN.{natAbs}
 use Rattle.std.proofs.shelf.Tests.{cases-bool, eq-eqb, eqb-true}
-use Rattle.divisors.specs.declared.fraction.Fraction.{Fraction}
-use Rattle.divisors.specs.Dividing.{thinned}
 use Rattle.divisors.specs.Folding.{foldIn, foldOf}
 use Rattle.divisors.specs.Laws.{BarredLaws, MultiplesMean, OrderLaws, RequiredLaws, WorkedFolds}
 use Rattle.divisors.specs.Lists.{atMost, put, tidyOf}
-use Rattle.divisors.specs.Settled.{settled}
 use Rattle.divisors.specs.Shared.{restIn, restOf, sharedOf}
 use Rattle.divisors.specs.Whole.{gcdIn, gcdOf, lcmOf}
 use Rattle.divisors.specs.Written.{requiredOf}

@@ -1,17 +1,17 @@
 -- Loops that test each of a row.
-use mathlib.Core.Path.{_≡_, refl, sym, ap, subst, _∙_}
-use mathlib.Core.Bool.{Bool, true, false, cond, _&&_, _||_, not}
+use mathlib.Core.Path.{_≡_, sym, ap, _∙_}
+use mathlib.Core.Bool.{Bool, true, false, cond, _&&_, _||_}
 use mathlib.Core.List.{List, [], _∷_, _++_}
-use Prim.Native.Nat.{ℕ, suc, _+_, _-_, _≤_, _<_}
+use Prim.Native.Nat.{ℕ, _+_, _-_, _≤_, _<_}
 use lib.ListN.{length, getD, take, drop}
-use Rattle.std.proofs.shelf.Lists.{at-drop-more, at-drop-all, drop-more, drop-all, getD-take, length-take-le, append-nil, take-rest}
+use Rattle.std.proofs.shelf.Lists.{at-drop-more, at-drop-all, drop-more, drop-all, getD-take, length-take-le, append-nil}
 use Rattle.std.proofs.shelf.Elements.{kept-by-more}
 use Rattle.std.proofs.shelf.Tests.{cond-true, cond-false}
 use Rattle.std.specs.shelf.Lists.{kept-by}
 use native.Mathlib.Omega.{arith}
 use Rattle.divisors.specs.declared.fraction.Fraction.{Fraction}
 use Rattle.divisors.specs.Fractions.{lower, none}
-use Rattle.divisors.specs.Lists.{ascends, atMost, every, some}
+use Rattle.divisors.specs.Lists.{atMost, every, some}
 
 module _ (p : Fraction → Bool) (xs : List Fraction) (i : ℕ) where
   some-at : i < length xs → some p (drop i xs) ≡ (p (getD xs i none) || some p (drop (i + 1) xs))

@@ -1,13 +1,12 @@
 -- Reduced fractions by size: a strict total order.
-use mathlib.Core.Path.{_≡_, refl, sym, ap, subst, _∙_}
+use mathlib.Core.Path.{_≡_, sym, subst, _∙_}
 use mathlib.Core.Bool.{true, false}
 use Prim.Native.Nat.{ℕ, _*_, _≤_, _<_, _∣_}
-use native.Mathlib.Nat.{dvd-antisymm, dvd-mul-left, dvd-mul-right, mul-lt-mul-of-pos-right, mul-assoc, mul-comm, lt-of-mul-lt-mul-right}
+use native.Mathlib.Nat.{dvd-antisymm, dvd-mul-left, dvd-mul-right, mul-lt-mul-of-pos-right, mul-comm, lt-of-mul-lt-mul-right}
 use native.Mathlib.Omega.{arith}
 use Rattle.std.proofs.shelf.Tests.{ltb-true, ltb-false, lt-ltb}
 use Rattle.divisors.specs.declared.fraction.Fraction.{Fraction}
 use Rattle.divisors.specs.Fractions.{Reduced, lower}
-use Rattle.divisors.specs.Whole.{gcdOf}
 use Rattle.divisors.proofs.Gcds.{gcd-comm, coprime-divides}
 
 pub lower-less : (a b : Fraction) → lower a b ≡ true → a .p * b .q < b .p * a .q

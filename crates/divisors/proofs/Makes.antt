@@ -1,14 +1,13 @@
 -- What the makers promise: lowest terms, folded lists, thinned lists, of all integers.
 use mathlib.Core.Path.{_≡_, refl, sym, ap, subst, _∙_}
 use mathlib.Core.Logic.{_↔_}
-use mathlib.Core.Bool.{Bool, true, false, _&&_}
-use mathlib.Core.List.{List, [], _∷_, map}
-use lib.Dec.{ltb}
-use lib.IntN.{ℤ, natAbs}
-use Rattle.std.specs.shelf.Lists.{All, kept-by}
+use mathlib.Core.Bool.{true}
+use mathlib.Core.List.{List}
+use lib.IntN.{natAbs}
+use Rattle.std.specs.shelf.Lists.{All}
 use Rattle.divisors.specs.declared.fraction.Fraction.{Fraction}
 use Rattle.divisors.specs.Dividing.{thinned, thinOf}
-use Rattle.divisors.specs.Folding.{FoldsTo, NoJoin, NoStrip, done, joined, stripped, foldOf}
+use Rattle.divisors.specs.Folding.{FoldsTo, NoJoin, NoStrip, done, joined, stripped}
 use Rattle.divisors.specs.Fractions.{LowestTerms, MultipleOf, inRange, reduceOf}
 use Rattle.divisors.specs.Lists.{tidyOf}
 use Rattle.divisors.specs.Settled.{settled}

@@ -1,7 +1,7 @@
 -- Multiples of p/q, found without the product: p divides n * q exactly when p in lowest terms divides n.
-use mathlib.Core.Path.{_≡_, refl, sym, ap, subst, _∙_}
+use mathlib.Core.Path.{_≡_, sym, ap, subst, _∙_}
 use mathlib.Core.Logic.{_↔_, ⊎-elim}
-use mathlib.Core.Bool.{Bool, true, false}
+use mathlib.Core.Bool.{true}
 use Prim.Native.Nat.{ℕ, _*_, _/_, _%_, _<_, _∣_}
 use native.Mathlib.Nat.{dvd-mul-right-of-dvd, dvd-of-mod-eq-zero, dvd-of-mul-dvd-mul-right, div-mul-cancel, mod-eq-zero-of-dvd, mod-zero, mul-assoc, mul-dvd-mul-right, mul-pos, mul-zero, zero-mul}
 use native.Mathlib.Omega.{arith}

@@ -1,18 +1,16 @@
 -- A row is the front of an array: what holds at its places.
-use mathlib.Core.Path.{_≡_, refl, sym, ap, subst, _∙_}
+use mathlib.Core.Path.{_≡_, refl, sym, ap, _∙_}
 use mathlib.Core.List.{List, [], _∷_}
 use mathlib.Core.Bool.{true, false, cond}
 use mathlib.Core.Logic.{⊎-elim}
-use Prim.Native.Nat.{ℕ, zero, suc, min, _+_, _-_, _≤_, _<_}
+use Prim.Native.Nat.{ℕ, zero, suc, _+_, _-_, _≤_, _<_}
 use native.Mathlib.Omega.{arith}
 use lib.ListN.{length, getD, take, drop, set}
 use Rattle.std.proofs.shelf.Lists.{getD-take, length-take, length-take-le, length-set, getD-set-same, getD-set-other, ext-getD, at-drop-more, at-drop-all}
 use Rattle.std.proofs.shelf.Edits.{length-removed, getD-removed-below, getD-removed-above, length-inserted, getD-inserted-below, getD-inserted-at, getD-inserted-above}
 use Rattle.std.proofs.shelf.Tests.{cases-eq, cases-lt, cases-order, cond-true, cond-false}
 use Rattle.std.specs.shelf.Lists.{inserted, removed}
-use Rattle.std.specs.declared.option.Option.{Option}
 use Rattle.divisors.specs.declared.fraction.Fraction.{Fraction}
-use Rattle.divisors.specs.Folding.{Apart}
 use Rattle.divisors.specs.Fractions.{joinOf, lower, none, stripBy}
 use Rattle.divisors.specs.Lists.{placeOf}
 

@@ -1,16 +1,16 @@
 -- Primes, and the part that one number shares with another.
 use mathlib.Core.Path.{_≡_, refl, sym, ap, subst, _∙_}
 use mathlib.Core.Logic.{_⊎_, inl, inr, ⊎-elim}
-use mathlib.Core.Bool.{Bool, true, false, cond, _||_, not}
+use mathlib.Core.Bool.{Bool, true, false, _||_, not}
 use Prim.Native.Nat.{ℕ, zero, suc, _+_, _-_, _*_, _/_, _%_, _≤_, _<_, _∣_}
-use native.Mathlib.Nat.{dvd-refl, dvd-trans, dvd-mul-left, dvd-mul-right, dvd-mul-right-of-dvd, mul-assoc, mul-comm, one-mul, mul-one, mul-dvd-mul-left, mul-dvd-mul-right, pos-of-dvd-of-pos, le-of-dvd, eq-one-of-dvd-one, mul-div-cancel', div-lt-self, mul-div-cancel, mul-pos}
+use native.Mathlib.Nat.{dvd-refl, dvd-trans, dvd-mul-left, dvd-mul-right, mul-assoc, mul-comm, one-mul, mul-dvd-mul-left, mul-dvd-mul-right, pos-of-dvd-of-pos, le-of-dvd, eq-one-of-dvd-one, mul-div-cancel', div-lt-self, mul-div-cancel}
 use native.Mathlib.Decide.{decDvd}
 use native.Mathlib.Omega.{arith}
 use lib.Dec.{eqb}
-use Rattle.std.proofs.shelf.Tests.{cond-true, cond-false, or-left, or-right, or-from, not-from-true, not-from-false, eqb-true, eqb-false, eq-eqb, ne-eqb, cases-bool, cases-eq, cases-lt, cases-order}
+use Rattle.std.proofs.shelf.Tests.{cond-true, cond-false, or-left, or-right, or-from, not-from-true, not-from-false, eqb-true, eqb-false, eq-eqb, ne-eqb, cases-eq, cases-lt}
 use Rattle.std.specs.declared.option.Option.the-variants.{Some, None}
 use Rattle.divisors.specs.Shared.{BuiltFrom, IsShared, Prime, restIn, restOf, sharedOf, stripOf}
-use Rattle.divisors.specs.Whole.{IsGcd, gcdOf}
+use Rattle.divisors.specs.Whole.{gcdOf}
 use Rattle.divisors.proofs.Gcds.{gcd-is, gcd-mul, gcd-pos, coprime-divides}
 
 -- p divides n, and no smaller number above 1 does

@@ -1,18 +1,14 @@
 -- What the test of a folded row tells.
-use mathlib.Core.Path.{_≡_, refl, sym, ap, subst, _∙_}
-use mathlib.Core.Bool.{Bool, true, false, _&&_}
+use mathlib.Core.Path.{_≡_, refl}
+use mathlib.Core.Bool.{true, _&&_}
 use mathlib.Core.List.{List, [], _∷_}
-use Prim.Native.Nat.{ℕ, zero, suc, _^_, _<_}
-use native.Mathlib.Omega.{arith}
-use native.Mathlib.Nat.{not-suc-le-zero, le-of-suc-le-suc}
+use Prim.Native.Nat.{_^_}
 use lib.Dec.{ltb, eqb}
-use lib.ListN.{length, getD}
 use Rattle.std.proofs.shelf.Tests.{and-parts, and-from, ltb-true, eqb-true, lt-ltb, eq-eqb}
 use Rattle.std.specs.shelf.Lists.{All}
 use Rattle.divisors.specs.declared.fraction.Fraction.{Fraction}
-use Rattle.divisors.specs.Fractions.{Reduced, isReduced, none}
-use Rattle.divisors.specs.Lists.{ascends}
-use Rattle.divisors.specs.Settled.{areMore, areReduced, joinless, settled, stripless}
+use Rattle.divisors.specs.Fractions.{Reduced, isReduced}
+use Rattle.divisors.specs.Settled.{areReduced}
 use Rattle.divisors.specs.Whole.{gcdOf}
 
 pub reduced-if : (f : Fraction) → isReduced f ≡ true → Reduced f

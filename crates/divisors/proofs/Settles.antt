@@ -1,10 +1,10 @@
 -- What a fold ends with is settled; no one of a settled row divides another.
 use mathlib.Core.Path.{_≡_, refl, sym, ap, subst, _∙_}
-use mathlib.Core.Logic.{_⊎_, inl, inr, ⊎-elim}
-use mathlib.Core.Bool.{Bool, true, false, _&&_, not}
+use mathlib.Core.Logic.{_⊎_, ⊎-elim}
+use mathlib.Core.Bool.{true, _&&_, not}
 use mathlib.Core.List.{List, [], _∷_}
-use Prim.Native.Nat.{ℕ, zero, suc, _*_, _%_, _≤_, _<_, _∣_}
-use native.Mathlib.Nat.{dvd-trans, le-of-dvd, dvd-of-mod-eq-zero, mul-one, pos-of-dvd-of-pos}
+use Prim.Native.Nat.{ℕ, suc, _*_, _≤_, _<_, _∣_}
+use native.Mathlib.Nat.{le-of-dvd, dvd-of-mod-eq-zero, mul-one}
 use native.Mathlib.Omega.{arith}
 use lib.Dec.{ltb}
 use lib.ListN.{length, getD, set, take, drop}
@@ -12,17 +12,17 @@ use Rattle.std.specs.Options.{isSome}
 use Rattle.std.specs.declared.option.Option.{Option}
 use Rattle.std.specs.declared.option.Option.the-variants.{Some, None}
 use Rattle.std.specs.shelf.Lists.{All, removed}
-use Rattle.std.proofs.shelf.Elements.{all-append, all-take, all-drop, all-set, all-getD, all-weaker}
-use Rattle.std.proofs.shelf.Tests.{and-parts, and-from, ltb-true, lt-ltb, cases-lt, cases-order, not-true}
+use Rattle.std.proofs.shelf.Elements.{all-append, all-take, all-drop, all-set, all-getD}
+use Rattle.std.proofs.shelf.Tests.{and-parts, and-from, ltb-true, lt-ltb, cases-lt, cases-order}
 use Rattle.divisors.specs.declared.folding.Pair.{Pair}
 use Rattle.divisors.specs.declared.folding.Strip.{Strip}
 use Rattle.divisors.specs.declared.fraction.Fraction.{Fraction}
 use Rattle.divisors.specs.Folding.{FirstJoin, FirstStrip, FoldsTo, NoJoin, NoStrip, done, joined, joinedBy, stripped, strippedBy}
 use Rattle.divisors.specs.Fractions.{Reduced, divides, joinOf, none, stripBy}
-use Rattle.divisors.specs.Lists.{ascends, every, tidyOf}
+use Rattle.divisors.specs.Lists.{ascends}
 use Rattle.divisors.specs.Settled.{alone, areMore, areReduced, firm, joinless, settled, stripless}
 use Rattle.divisors.specs.Shared.{restOf, sharedOf}
-use Rattle.divisors.specs.Whole.{gcdOf, lcmOf}
+use Rattle.divisors.specs.Whole.{lcmOf}
 use Rattle.divisors.proofs.Gcds.{lcm-is}
 use Rattle.divisors.proofs.Primes.{rest-is, rest-pos}
 use Rattle.divisors.proofs.Joins.{join-parts, join-reduced}

@@ -1,13 +1,12 @@
 -- What a strip leaves.
 use mathlib.Core.Path.{_≡_, refl, sym, ap, subst, _∙_}
-use mathlib.Core.Logic.{_↔_, ⊎-elim}
+use mathlib.Core.Logic.{_↔_}
 use mathlib.Core.Bool.{Bool, true, false, cond, _&&_, _||_, not}
-use Prim.Native.Nat.{ℕ, suc, _+_, _*_, _/_, _%_, _^_, _≤_, _<_, _∣_}
-use native.Mathlib.Nat.{dvd-trans, dvd-mul-left, dvd-of-mod-eq-zero, div-lt-self, mul-div-cancel-left, eq-one-of-dvd-one, pos-of-dvd-of-pos, le-of-dvd}
+use Prim.Native.Nat.{ℕ, _/_, _%_, _<_, _∣_}
+use native.Mathlib.Nat.{dvd-trans, dvd-mul-left, dvd-of-mod-eq-zero, div-lt-self, mul-div-cancel-left, eq-one-of-dvd-one}
 use native.Mathlib.Omega.{arith}
 use lib.Dec.{eqb, ltb}
 use Rattle.std.specs.Options.{mapped}
-use Rattle.std.specs.declared.option.Option.{Option}
 use Rattle.std.specs.declared.option.Option.the-variants.{Some, None}
 use Rattle.std.proofs.shelf.Tests.{and-parts, or-parts, eqb-true, eqb-false, ltb-true, not-false}
 use Rattle.divisors.specs.declared.fraction.Fraction.{Fraction}
@@ -15,7 +14,7 @@ use Rattle.divisors.specs.Fractions.{Multiple, Reduced, stripBy}
 use Rattle.divisors.specs.Shared.{restOf, sharedOf, stripOf}
 use Rattle.divisors.specs.Whole.{gcdOf}
 use Rattle.divisors.proofs.Gcds.{gcd-is}
-use Rattle.divisors.proofs.Primes.{rest-is, rest-pos, shared-is, shared-pos, strip-sound}
+use Rattle.divisors.proofs.Primes.{rest-is, rest-pos, shared-pos, strip-sound}
 use Rattle.divisors.proofs.Joins.{whole-multiple}
 
 pub record Stripped (a b f : Fraction) : Type 0 where

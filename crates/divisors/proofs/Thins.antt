@@ -1,8 +1,8 @@
 -- A thinned row: no one divides another, and it bars what the row bars.
-use mathlib.Core.Path.{_≡_, refl, sym, ap, subst, _∙_}
+use mathlib.Core.Path.{_≡_}
 use mathlib.Core.Logic.{_⊎_, inl, inr, ⊎-elim, _↔_}
 use mathlib.Core.Bool.{Bool, true, false, _&&_, not}
-use mathlib.Core.List.{List, [], _∷_}
+use mathlib.Core.List.{List}
 use Prim.Native.Nat.{ℕ, zero, suc, _+_, _-_, _^_, _≤_, _<_}
 use native.Mathlib.Nat.{le-of-dvd}
 use native.Mathlib.Omega.{arith}
@@ -13,10 +13,10 @@ use Rattle.std.proofs.shelf.Tests.{and-parts, and-from, eq-eqb, cases-bool, cas
 use Rattle.divisors.specs.declared.fraction.Fraction.{Fraction}
 use Rattle.divisors.specs.Dividing.{divided, thin, thinOf, thinned}
 use Rattle.divisors.specs.Fractions.{Multiple, Reduced, divides, same}
-use Rattle.divisors.specs.Lists.{ascends, every, some}
+use Rattle.divisors.specs.Lists.{ascends}
 use Rattle.divisors.specs.Settled.{areReduced}
 use Rattle.divisors.proofs.Tidies.{same-eq}
-use Rattle.divisors.proofs.Ascends.{Lower, ascends-pairs, pairs-ascends, same-self}
+use Rattle.divisors.proofs.Ascends.{Lower, ascends-pairs, pairs-ascends}
 use Rattle.divisors.proofs.Reducing.{all-reduced, reduced-all}
 use Rattle.divisors.proofs.Members.{NoMultiples, In, Pairs, all-in, in-all, every-in, in-every, some-in, in-some, kept-pairs, kept-in, in-kept}
 use Rattle.divisors.proofs.Divides.{divides-parts, divides-refl, divides-trans, divides-multiple}

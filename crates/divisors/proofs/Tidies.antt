@@ -1,23 +1,22 @@
 -- A tidy row: what holds of its fractions, and its weight.
-use mathlib.Core.Path.{_≡_, refl, sym, ap, subst, _∙_}
-use mathlib.Core.Bool.{Bool, true, false, cond, _&&_}
+use mathlib.Core.Path.{_≡_, sym, ap, subst}
+use mathlib.Core.Bool.{Bool, true, false}
 use mathlib.Core.List.{List, [], _∷_, _++_}
-use Prim.Native.Nat.{ℕ, zero, suc, _+_, _-_, _*_, _^_, _≤_, _<_}
+use Prim.Native.Nat.{ℕ, suc, _+_, _-_, _≤_, _<_}
 use native.Mathlib.Omega.{arith}
 use lib.Dec.{eqb, ltb}
 use lib.ListN.{length, getD, set, take, drop}
-use Rattle.std.specs.shelf.Lists.{All, sumBy, inserted, removed}
-use Rattle.std.proofs.shelf.Lists.{take-append-drop, length-set, drop-more}
+use Rattle.std.specs.shelf.Lists.{All, inserted, removed}
+use Rattle.std.proofs.shelf.Lists.{take-append-drop, length-set}
 use Rattle.std.proofs.shelf.Elements.{all-append, all-take, all-drop, all-getD}
 use Rattle.std.proofs.shelf.Sums.{sumBy-append, sumBy-cons, sumBy-take-drop, sumBy-set, sumBy-drop-more}
 use Rattle.std.proofs.shelf.Tests.{cond-both, and-parts, eqb-true, ltb-true}
 use Rattle.std.specs.Orderings.{When}
-use Rattle.std.specs.declared.option.Option.the-variants.{Some, None}
 use Rattle.divisors.specs.declared.folding.Pair.{Pair}
 use Rattle.divisors.specs.declared.folding.Strip.{Strip}
 use Rattle.divisors.specs.declared.fraction.Fraction.{Fraction}
 use Rattle.divisors.specs.Folding.{FirstJoin, FirstStrip, FoldsTo, NoJoin, NoStrip, done, heavy, joined, joinedBy, stripped, strippedBy, weight}
-use Rattle.divisors.specs.Fractions.{none, same, stripBy}
+use Rattle.divisors.specs.Fractions.{none, same}
 use Rattle.divisors.specs.Lists.{placeOf, put, putAll, stands, tidyOf}
 use Rattle.divisors.proofs.Joins.{join-parts}
 use Rattle.divisors.proofs.Strips.{strip-less}

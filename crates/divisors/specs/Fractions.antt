@@ -1,8 +1,8 @@
 -- Fractions p/q: size, lowest terms, multiples, joins and strips.
 use mathlib.Core.Path.{_≡_}
-use mathlib.Core.Bool.{Bool, true, false, cond, _&&_}
+use mathlib.Core.Bool.{Bool, cond, _&&_}
 use mathlib.Core.Logic.{_↔_}
-use Prim.Native.Nat.{ℕ, _-_, _*_, _/_, _%_, _^_, _≤_, _<_, _∣_}
+use Prim.Native.Nat.{ℕ, _-_, _*_, _/_, _%_, _^_, _<_, _∣_}
 use lib.Dec.{eqb, leb, ltb}
 use lib.IntN.{ℤ, pos, _*ℤ_}
 use Rattle.std.specs.Options.{mapped}

@@ -1,7 +1,7 @@
 -- The part that one whole number shares with another.
 use mathlib.Core.Path.{_≡_}
 use mathlib.Core.Logic.{_⊎_}
-use mathlib.Core.Bool.{Bool, true, false, cond, _||_, not}
+use mathlib.Core.Bool.{true, false, cond, _||_, not}
 use lib.Dec.{eqb}
 use Prim.Native.Nat.{ℕ, zero, suc, _/_, _%_, _≤_, _<_, _∣_}
 use Rattle.std.specs.declared.option.Option.{Option}

@@ -1,6 +1,5 @@
 -- Whole numbers: the greatest common divisor and the least common multiple.
-use mathlib.Core.Path.{_≡_}
-use Prim.Native.Nat.{ℕ, zero, suc, _*_, _/_, _%_, _≤_, _<_, _∣_}
+use Prim.Native.Nat.{ℕ, zero, suc, _*_, _/_, _%_, _∣_}
 
 -- g divides a and b, and every common divisor divides it
 pub record IsGcd (a b g : ℕ) : Type 0 where

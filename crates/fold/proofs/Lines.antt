@@ -1,6 +1,5 @@
 -- A line whose two lists are read.
 use mathlib.Core.Path.{_≡_, sym, ap, subst, _∙_}
-use mathlib.Core.Bool.{cond}
 use mathlib.Core.List.{List}
 use Prim.Native.Nat.{ℕ, _+_, _<_}
 use lib.Dec.{ltb}
@@ -11,7 +10,7 @@ use Rattle.std.specs.declared.option.Option.the-variants.{Some}
 use Rattle.divisors.specs.declared.fraction.Fraction.{Fraction}
 use Rattle.divisors.specs.Written.{refusalOfBoth}
 use Rattle.notation.specs.Text.{divisorsOf, indexOf}
-use Rattle.fold.specs.Outcomes.{Outcome, foldedOr, malformed, outcomeOf, readOr}
+use Rattle.fold.specs.Outcomes.{foldedOr, malformed, outcomeOf, readOr}
 
 pub line-is :
     (line : List ℕ) (i : ℕ) → i ≡ indexOf 32 line → i < length line → (rs bs : List Fraction) → Some rs ≡ divisorsOf (take i line) → Some bs ≡ divisorsOf (drop (i + 1) line) →

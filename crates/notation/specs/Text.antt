@@ -1,6 +1,5 @@
 -- Divisors as text.
-use mathlib.Core.Path.{_≡_}
-use mathlib.Core.Bool.{Bool, true, false, cond, _&&_, _||_}
+use mathlib.Core.Bool.{Bool, false, cond, _&&_}
 use mathlib.Core.List.{List, [], _∷_, map}
 use Prim.Native.Nat.{ℕ, suc, min, _+_, _-_, _*_, _^_}
 use lib.Dec.{eqb, leb, ltb}

@@ -1,5 +1,5 @@
 use mathlib.Core.Path.{_≡_, sym, ap, subst, _∙_}
-use Prim.Native.Nat.{ℕ, _%_, _<_}
+use Prim.Native.Nat.{ℕ, _<_}
 use native.Mathlib.Omega.{arith}
 use Rattle.divisors.specs.Whole.{IsGcd, gcdOf}
 use Rattle.divisors.proofs.Gcds.{gcd-is, gcd-step, gcd-zero}

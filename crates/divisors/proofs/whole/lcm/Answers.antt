@@ -1,5 +1,5 @@
-use mathlib.Core.Path.{_≡_, refl, sym, ap, subst, _∙_}
-use Prim.Native.Nat.{ℕ, _*_, _/_, _≤_, _<_}
+use mathlib.Core.Path.{_≡_, sym, ap, _∙_}
+use Prim.Native.Nat.{ℕ, _*_, _/_}
 use native.Mathlib.Omega.{arith}
 use Rattle.divisors.specs.Whole.{gcdOf, lcmOf}
 use Rattle.divisors.proofs.Gcds.{gcd-pos, lcm-is, lcm-zero, fits, fits-not}

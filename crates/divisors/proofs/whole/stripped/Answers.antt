@@ -1,9 +1,7 @@
-use mathlib.Core.Path.{_≡_, sym, ap, subst, _∙_}
+use mathlib.Core.Path.{_≡_, sym, ap, subst}
 use Prim.Native.Nat.{ℕ, _/_, _<_}
 use mathlib.Core.Logic.{inl, inr}
-use native.Mathlib.Omega.{arith}
-use borrow.Author.Needs.{needs}
-use Rattle.divisors.specs.Shared.{IsShared, restOf, sharedOf, stripOf}
+use Rattle.divisors.specs.Shared.{restOf, sharedOf}
 use Rattle.divisors.proofs.Primes.{shared-is, shared-pos, rest-pos, strip-none, strip-some}
 use Rattle.divisors.proofs.whole.stripped.Needs as need
 

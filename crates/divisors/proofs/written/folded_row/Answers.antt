@@ -1,13 +1,11 @@
-use mathlib.Core.Path.{_≡_, sym, subst, ap, _∙_}
-use mathlib.Core.Bool.{true}
+use mathlib.Core.Path.{sym, subst}
 use mathlib.Core.List.{List}
-use mathlib.Core.Bool.{_&&_}
 use Rattle.std.proofs.shelf.Tests.{and-from}
 use Rattle.divisors.specs.declared.fraction.Fraction.{Fraction}
 use Rattle.divisors.specs.Folding.{FoldsTo}
 use Rattle.divisors.specs.Rows.{fractions, held, padded}
 use Rattle.divisors.specs.Settled.{settled}
-use Rattle.divisors.specs.Written.{FoldOf, overIntegers}
+use Rattle.divisors.specs.Written.{overIntegers}
 use Rattle.divisors.proofs.Lawful.{worked-folds}
 use Rattle.divisors.proofs.Makes.{fold-of, fold-settles}
 use Rattle.divisors.proofs.written.folded_row.Needs as need

@@ -1,5 +1,4 @@
-use mathlib.Core.Path.{_≡_, ap, _∙_}
-use mathlib.Core.Bool.{true, _&&_}
+use mathlib.Core.Path.{ap, _∙_}
 use Rattle.std.proofs.shelf.Tests.{and-from}
 use Rattle.divisors.specs.Dividing.{thinned, thinOf}
 use Rattle.divisors.specs.Rows.{fractions, padded}

@@ -1,7 +1,6 @@
-use mathlib.Core.Path.{_≡_, sym, ap, subst, _∙_}
-use Prim.Native.Nat.{ℕ, _/_, _<_}
+use mathlib.Core.Path.{_≡_, sym, subst, _∙_}
+use Prim.Native.Nat.{ℕ, _/_}
 use native.Mathlib.Nat.{div-zero}
-use native.Mathlib.Omega.{arith}
 use Rattle.divisors.specs.declared.fraction.Fraction.{Fraction}
 use Rattle.divisors.specs.Fractions.{LowestTerms, none, reduceOf}
 use Rattle.divisors.specs.Whole.{gcdOf}

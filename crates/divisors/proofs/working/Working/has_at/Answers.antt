@@ -1,7 +1,5 @@
 use mathlib.Core.Path.{_≡_, sym, ap, _∙_}
 use mathlib.Core.Bool.{Bool, _&&_}
-use Prim.Native.Nat.{_≤_}
-use lib.Dec.{ltb}
 use lib.ListN.{length, take, getD}
 use native.Mathlib.Omega.{arith}
 use borrow.Author.Needs.{needs}

@@ -1,9 +1,9 @@
 use mathlib.Core.Path.{_≡_, refl, ap, _∙_}
 use borrow.Author.Needs.{needs}
-use Prim.Native.Nat.{ℕ, _+_, _≤_}
-use lib.ListN.{length, take, set}
+use Prim.Native.Nat.{ℕ, _+_}
+use lib.ListN.{take, set}
 use native.Mathlib.Omega.{arith}
-use Rattle.divisors.proofs.Places.{MovedDown, down-none, down-all}
+use Rattle.divisors.proofs.Places.{down-none, down-all}
 use Rattle.divisors.proofs.working.Working.insert.Needs as need
 
 pub returns : need.returns

@@ -1,14 +1,12 @@
 use mathlib.Core.Path.{_≡_, sym, ap, subst, _∙_}
 use borrow.Author.Needs.{needs}
-use mathlib.Core.Bool.{true, false}
-use Prim.Native.Nat.{ℕ, _+_, _≤_, _<_}
-use lib.ListN.{length, take, drop, getD}
+use Prim.Native.Nat.{ℕ, _+_}
+use lib.ListN.{length, take, drop}
 use native.Mathlib.Omega.{arith}
 use Rattle.std.proofs.shelf.Lists.{length-take, length-take-le, getD-take}
 use Rattle.divisors.specs.declared.fraction.Fraction.{Fraction}
 use Rattle.divisors.specs.Fractions.{lower, none}
 use Rattle.divisors.specs.Lists.{placeOf}
-use Rattle.divisors.specs.Rows.{held}
 use Rattle.divisors.proofs.Places.{place-more, place-stop, place-all}
 use Rattle.divisors.proofs.working.Working.place.Needs as need
 

@@ -1,12 +1,11 @@
 use mathlib.Core.Path.{_≡_, refl, sym, ap, _∙_}
 use Rattle.std.proofs.shelf.Lists.{getD-take}
 use borrow.Author.Needs.{needs}
-use Prim.Native.Nat.{ℕ, _-_, _≤_}
-use lib.ListN.{length, take}
+use Prim.Native.Nat.{ℕ, _-_}
+use lib.ListN.{take}
 use native.Mathlib.Omega.{arith}
-use Rattle.divisors.specs.declared.fraction.Fraction.{Fraction}
 use Rattle.divisors.specs.Fractions.{none}
-use Rattle.divisors.proofs.Places.{MovedUp, moved-none, moved-more, moved-all}
+use Rattle.divisors.proofs.Places.{moved-none, moved-more, moved-all}
 use Rattle.divisors.proofs.working.Working.remove.Needs as need
 
 pub loop-k-again : need.loop-k-again

@@ -1,0 +1,5 @@
+mod Steps
+pub mod Chains
+pub mod Writing
+pub mod Encodes
+pub mod Beginnings

@@ -1,0 +1,10 @@
+ghost use lib.ListN.{drop};
+ghost use mathlib.Core.Path.{_≡_};
+
+// The part of the sheet from `start` on, empty where `start` lies past its end.
+pub fn rest_of<'a>(sheet: &'a [u8], start: usize) -> &'a [u8]
+    ensures { λ r. ⌜ now r ≡ drop start (now (sheet .entry)) ⌝ }
+{
+    let at = start.min(sheet.len());
+    &sheet[at..]
+}
