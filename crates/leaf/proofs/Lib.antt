@@ -3,3 +3,4 @@ pub mod Chains
 pub mod Writing
 pub mod Encodes
 pub mod Beginnings
+pub mod Hulls

@@ -112,9 +112,9 @@ module _ {V L : Type 0} (k : Kind V L) where
   Lawful a = k .lawful a ≡ true
 
   -- what is read is lawful and ends past its start and within the sheet
-  abbrev pub Well-read : List ℕ → ℕ → Answer L → Type 0
-  Well-read s i (found x e) = Lawful x × (i < e) × (e ≤ length s)
-  Well-read s i (refused f) = Unit {0}
+  abbrev pub WellRead : List ℕ → ℕ → Answer L → Type 0
+  WellRead s i (found x e) = Lawful x × (i < e) × (e ≤ length s)
+  WellRead s i (refused f) = Unit {0}
 
   pub record Laws : Type 0 where
     -- a total order of values
@@ -133,7 +133,8 @@ module _ {V L : Type 0} (k : Kind V L) where
     pub tie-grid : (a b : L) (v : V) → Lawful a → Lawful b → same-rule a b ≡ true → k .on-grid a v ≡ true → k .on-grid b v ≡ true
     pub tie-admits : (a b : L) (v : V) → Lawful a → Lawful b → same-rule a b ≡ true → k .rule-admits a v ≡ true → k .rule-admits b v ≡ true
     pub tie-equal : (a b : L) → Lawful a → Lawful b → same-rule a b ≡ true → k .minimum a ≡ k .minimum b → k .maximum a ≡ k .maximum b → a ≡ b
-    -- what is admitted is on the grid
+    -- a grid of values, and what is admitted is on it
+    pub grid-value : (a : L) (v : V) → Lawful a → k .on-grid a v ≡ true → k .is-value v ≡ true
     pub admits-grid : (a : L) (v : V) → Lawful a → k .rule-admits a v ≡ true → k .on-grid a v ≡ true
     -- the least grid value strictly above, absent exactly if there is none
     pub next-grid : (a : L) (v w : V) → Lawful a → k .is-value v ≡ true → k .next-on-grid a v ≡ Some w → (k .on-grid a w ≡ true) × (k .le w v ≡ false)
@@ -150,4 +151,4 @@ module _ {V L : Type 0} (k : Kind V L) where
     pub covers-anti : (a b : L) → Lawful a → Lawful b → k .rule-covers a b ≡ true → k .rule-covers b a ≡ true → same-rule a b ≡ true
     pub covers-admits : (a b : L) (v : V) → Lawful a → Lawful b → k .rule-covers a b ≡ true → k .rule-admits b v ≡ true → k .rule-admits a v ≡ true
     -- the reader
-    pub well-read : (s : List ℕ) (i : ℕ) → Well-read s i (k .reading s i)
+    pub well-read : (s : List ℕ) (i : ℕ) → WellRead s i (k .reading s i)

@@ -20,4 +20,5 @@ pub use kind::covers;
 pub use kind::join;
 pub use kind::no_later;
 pub use numbers::number;
+pub use sheet::has_flag;
 pub use sheet::rest_of;
