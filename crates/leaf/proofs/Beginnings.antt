@@ -7,9 +7,9 @@ use native.Mathlib.Omega.{arith}
 use native.Mathlib.Numerals.{unary-clauses}
 use lib.ListN.{length, take}
 use Rattle.std.proofs.shelf.Lists.{append-assoc, length-append, append-nil}
-use Rattle.leaf.specs.Encoding.{Follow, value, Spelt, Improper, Written, CutShort, Overlong, Beginning, Told, Shortest}
-use Rattle.leaf.proofs.Writing.{one-of, one-of-three}
-use Rattle.leaf.proofs.Encodes.{positive}
+use Rattle.leaf.specs.Encoding.{Follow, value, Spelt, Improper, Written, CutShort, Overlong, Beginning, Told, Shortest, NumbersStand}
+use Rattle.leaf.proofs.Writing.{numbers, one-of, one-of-three}
+use Rattle.leaf.proofs.Encodes.{one-to-one, positive}
 
 small : (k : ℕ) (front : List ℕ) → length front ≤ k → value front 1 < 2 * 128 ^ k
 small zero [] h = omega arith
@@ -64,3 +64,7 @@ no-shorter (b ∷ bs) (suc l) (c ∷ cs) m s e h =
 
 pub shortest : Shortest
 shortest bytes others w v s h = no-shorter (w .front) (w .last) (v .front) (v .last) s (v .ends) h
+
+pub numbers-stand : NumbersStand
+unfolding NumbersStand
+numbers-stand = record { judged = numbers; parted = one-of-three; paired = one-to-one; told = told-so; shortest = shortest }

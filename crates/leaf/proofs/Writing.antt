@@ -156,10 +156,6 @@ numbers s at = record {
   three = (bars-by s at (one-of (drop at s)), bars-it (length s) at (drop at s));
 }
 
--- so of any call that answers by the definition
-pub judged-so : (s : List ℕ) (at : ℕ) (a : Answer ℕ) → a ≡ numberAt s at → Judged s at a
-judged-so s at a h = subst (Judged s at) (sym h) (numbers s at)
-
 pub one-of-three : (bs : List ℕ) → OneOfThree bs
 one-of-three bs = (
   one-of bs,

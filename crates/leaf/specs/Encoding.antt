@@ -97,3 +97,15 @@ pub record Told : Type 0 where
 -- the shortest form is that: no fewer bytes spell the same number
 abbrev pub Shortest : Type 0
 Shortest = (bytes others : List ℕ) (w : Spelt bytes) (v : Spelt others) → (w .last ≡ 0 → w .front ≡ []) → value (w .front) (w .last) ≡ value (v .front) (v .last) → length (w .front) ≤ length (v .front)
+
+-- how numbers stand in a sheet: which bytes are read as which number, which are refused with 2 and which with 3
+pub record NumberLaws : Type 0 where
+  pub judged : Numbers
+  pub parted : (bytes : List ℕ) → OneOfThree bytes
+  pub paired : OneToOne
+  pub told : Told
+  pub shortest : Shortest
+
+-- shut, so that callers go by the equation alone
+unfoldable pub NumbersStand : Type 0
+NumbersStand = NumberLaws

@@ -1,10 +1,9 @@
-ghost use Prim.Native.Nat.{ℕ, _<_, _≤_, _+_};
-ghost use Rattle.leaf.specs.Encoding.{Judged, OneOfThree, OneToOne, Shortest, Told};
+ghost use Prim.Native.Nat.{_<_, _≤_};
+ghost use Rattle.leaf.specs.Encoding.{NumbersStand};
 ghost use Rattle.leaf.specs.Faults.{seen};
 ghost use Rattle.leaf.specs.Numbers.{groupsOf, judged, moved, numberAt};
 ghost use Rattle.std.specs.Vec.{made};
 ghost use lib.ListN.{length};
-ghost use mathlib.Core.List.{List};
 ghost use mathlib.Core.Path.{_≡_};
 use crate::fault::Fault;
 use crate::fault::Refusal;
@@ -17,11 +16,7 @@ const MOST: u32 = 10;
 pub fn number(sheet: &[u8], start: usize) -> Result<(u64, usize), Fault>
     ensures within { λ r. ⌜ made r (λ p. (start < p .1) × (p .1 ≤ length (now (sheet .entry)))) ⌝ }
     ensures reads { λ r. ⌜ seen r ≡ numberAt (now (sheet .entry)) start ⌝ }
-    ensures judged { λ r. ⌜ Judged (now (sheet .entry)) start (seen r) ⌝ }
-    ensures parted { λ _. ⌜ ((bytes : List ℕ) → OneOfThree bytes) ⌝ }
-    ensures paired { λ _. ⌜ OneToOne ⌝ }
-    ensures told { λ _. ⌜ Told ⌝ }
-    ensures shortest { λ _. ⌜ Shortest ⌝ }
+    ensures laws { λ _. ⌜ NumbersStand ⌝ }
 {
     read_number(sheet, start)
 }
@@ -30,11 +25,7 @@ pub fn number(sheet: &[u8], start: usize) -> Result<(u64, usize), Fault>
 fn read_number(sheet: &[u8], start: usize) -> Result<(u64, usize), Fault>
     ensures within { λ r. ⌜ made r (λ p. (start < p .1) × (p .1 ≤ length (now (sheet .entry)))) ⌝ }
     ensures reads { λ r. ⌜ seen r ≡ numberAt (now (sheet .entry)) start ⌝ }
-    ensures judged { λ r. ⌜ Judged (now (sheet .entry)) start (seen r) ⌝ }
-    ensures parted { λ _. ⌜ ((bytes : List ℕ) → OneOfThree bytes) ⌝ }
-    ensures paired { λ _. ⌜ OneToOne ⌝ }
-    ensures told { λ _. ⌜ Told ⌝ }
-    ensures shortest { λ _. ⌜ Shortest ⌝ }
+    ensures laws { λ _. ⌜ NumbersStand ⌝ }
 {
     let (value, used) = groups(rest_of(sheet, start), MOST, start, sheet.len())?;
     Ok((value, start + used))

@@ -5,9 +5,7 @@ use mathlib.Core.Path.{ap, _∙_}
 use Rattle.std.proofs.shelf.Lists.{length-drop}
 use Rattle.std.proofs.shelf.Results.{err-from-errBy}
 use Rattle.leaf.specs.Numbers.{numberAt}
-use Rattle.leaf.proofs.Beginnings.{told-so, shortest}
-use Rattle.leaf.proofs.Encodes.{one-to-one}
-use Rattle.leaf.proofs.Writing.{judged-so, one-of-three}
+use Rattle.leaf.proofs.Beginnings.{numbers-stand}
 use Rattle.leaf.proofs.numbers.read_number.Needs as need
 
 pub add-result : need.add-result
@@ -21,7 +19,7 @@ unfolding numberAt
 returns-in-Break-value c =
     let q = err-from-errBy (c .from-residual .result) (c .from-residual .ensures .1) in
     let reads = rw (c .rest-of .ensures) at (c .in-Break-value .ensures tt .reads) in
-    rw (q .1, q .2) record { within = tt; reads = reads; judged = judged-so _ _ _ reads; parted = one-of-three; paired = one-to-one; told = told-so; shortest = shortest }
+    rw (q .1, q .2) record { within = tt; reads = reads; laws = numbers-stand }
 
 pub returns : need.returns
 unfolding numberAt
@@ -29,4 +27,4 @@ returns c =
     let w = c .in-Continue-value .ensures tt .within in
     let l = simp length-drop at (ap length (c .rest-of .ensures)) in
     let reads = rw (c .rest-of .ensures) at (c .in-Continue-value .ensures tt .reads) in
-    record { within = (omega arith, omega arith); reads = reads; judged = judged-so _ _ _ reads; parted = one-of-three; paired = one-to-one; told = told-so; shortest = shortest }
+    record { within = (omega arith, omega arith); reads = reads; laws = numbers-stand }

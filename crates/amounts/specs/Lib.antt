@@ -1,0 +1,7 @@
+pub mod Values
+pub mod Rules
+pub mod Leaves
+pub mod Reading
+pub mod Making
+pub mod Amounts
+pub mod Meaning
