@@ -6,3 +6,7 @@ pub mod Means
 pub mod Makes
 pub mod Windows
 pub mod Listing
+pub mod Lengths
+pub mod Endings
+pub mod Read
+pub mod Shows

@@ -4,11 +4,9 @@ use mathlib.Core.Bool.{cond}
 use borrow.Author.Tests.{le-ltb, lt-ltb}
 use lib.Dec.{ltb}
 use mathlib.Core.List.{List, [], _∷_, _++_}
-use Prim.Native.Nat.{ℕ, zero, suc, _+_, _-_, _<_, _≤_}
+use Prim.Native.Nat.{ℕ, suc, _+_, _-_, _<_, _≤_}
 use native.Mathlib.Omega.{arith}
 use lib.ListN.{length, take, drop, set, replicate}
-use Rattle.std.specs.declared.option.Option.{Option}
-use Rattle.std.specs.declared.option.Option.the-variants.{Some}
 use Rattle.leaf.specs.Faults.{Answer, Fills, Refused, found, in-leaf, next, refused, shown}
 use Rattle.leaf.specs.Numbers.{numberAt}
 use Rattle.leaf.specs.declared.fault.Fault.{Fault}

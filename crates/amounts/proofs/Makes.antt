@@ -1,6 +1,6 @@
 -- The leaf of bounds and divisors as written: which one it is, that it is lawful, and what it means.
-use mathlib.Core.Path.{_≡_, refl, sym, ap, subst, _∙_}
-use mathlib.Core.Bool.{Bool, true, _&&_}
+use mathlib.Core.Path.{_≡_}
+use mathlib.Core.Bool.{true, _&&_}
 use mathlib.Core.List.{List}
 use lib.IntN.{ℤ}
 use Rattle.std.specs.declared.option.Option.{Option}

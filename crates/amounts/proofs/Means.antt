@@ -1,6 +1,6 @@
 -- A leaf admits what its bounds and its divisors as written mean.
-use mathlib.Core.Path.{_≡_, refl, sym, ap, subst, _∙_}
-use mathlib.Core.Bool.{Bool, true, _&&_}
+use mathlib.Core.Path.{_≡_, refl, subst}
+use mathlib.Core.Bool.{_&&_}
 use mathlib.Core.List.{List}
 use Prim.Native.Nat.{ℕ}
 use native.Mathlib.Omega.{arith}
@@ -16,7 +16,7 @@ use Rattle.leaf.specs.Kind.Ext.{value}
 use Rattle.leaf.specs.Kind.{ext-le, from, upto}
 use Rattle.amounts.specs.declared.amount_leaf.AmountLeaf.{AmountLeaf}
 use Rattle.amounts.specs.Leaves.{barred, required}
-use Rattle.amounts.specs.Meaning.{Meant, Means}
+use Rattle.amounts.specs.Meaning.{Means}
 use Rattle.amounts.specs.Rules.{admitted}
 use Rattle.amounts.specs.Values.{isAmount}
 use Rattle.amounts.proofs.Nexts.{le-of, of-le}

@@ -1,11 +1,11 @@
 -- A padded row is the row of its list.
 use mathlib.Core.Path.{_≡_, refl, sym, ap, _∙_}
-use mathlib.Core.Bool.{Bool, true, _&&_}
+use mathlib.Core.Bool.{true, _&&_}
 use mathlib.Core.List.{List, [], _∷_, _++_}
-use Prim.Native.Nat.{ℕ, suc, _-_, _≤_}
+use Prim.Native.Nat.{ℕ, _-_, _≤_}
 use native.Mathlib.Omega.{arith}
 use lib.Dec.{eqb, leb}
-use lib.ListN.{drop, length, length-drop, replicate, take}
+use lib.ListN.{drop, length, length-drop, replicate}
 use Rattle.std.proofs.shelf.Lists.{length-take-le, take-append-drop}
 use Rattle.std.proofs.shelf.Tests.{and-parts, eqb-true, leb-true}
 use Rattle.divisors.specs.declared.fraction.Fraction.{Fraction}

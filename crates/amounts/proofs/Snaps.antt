@@ -1,6 +1,6 @@
 -- The snap: a signed remainder is taken back, or the rest of a step is gone.
-use mathlib.Core.Path.{_≡_, refl, sym, ap, subst, _∙_}
-use mathlib.Core.Bool.{Bool, true, false, cond}
+use mathlib.Core.Path.{_≡_, refl, ap, subst, _∙_}
+use mathlib.Core.Bool.{false, cond}
 use Prim.Native.Nat.{ℕ, zero, suc, _+_, _-_, _*_, _/_, _^_, _%_, _≤_, _<_}
 use native.Mathlib.Omega.{arith}
 use native.Mathlib.Nat.{mul-mod-left, zero-mul, suc-mul}
@@ -14,7 +14,7 @@ use Rattle.std.specs.Numbers.{Checked}
 use Rattle.std.proofs.shelf.Signed.{ints}
 use Rattle.std.proofs.shelf.Bits.{div-add-mod', mod-below}
 use Rattle.std.proofs.shelf.Tests.{ltb-true, lt-ltb, cond-both, both-ways}
-use Rattle.amounts.specs.Values.{isAmount, above, nextOf}
+use Rattle.amounts.specs.Values.{isAmount, nextOf}
 use Rattle.amounts.proofs.Nexts.{Above, natAbs-neg, above-one}
 
 pub times : (s q : ℕ) (z : ℤ) → z ≡ pos (q * s) → natAbs z % s ≡ 0

@@ -1,13 +1,11 @@
 -- Bounds as written: amounts in range, and a window of them.
 use mathlib.Core.Path.{_≡_, refl, sym, ap, subst, _∙_}
-use mathlib.Core.Logic.{⊎-elim}
 use mathlib.Core.Bool.{Bool, true, false, cond, _&&_}
 use Prim.Native.Nat.{ℕ, zero, suc, _^_}
 use native.Mathlib.Omega.{arith}
 use lib.Dec.{eqb, leb, ltb}
 use lib.IntN.{ℤ, pos, negℤ}
-use lib.Signed.{leZ}
-use Rattle.std.proofs.shelf.Tests.{and-from, cond-both, eqb-false, leb-true, lt-ltb, ltb-true}
+use Rattle.std.proofs.shelf.Tests.{and-from, cond-both, eqb-false, leb-true, lt-ltb}
 use Rattle.std.specs.declared.option.Option.{Option}
 use Rattle.std.specs.declared.option.Option.the-variants.{Some, None}
 use Rattle.std.specs.declared.result.Result.{Result}

@@ -1,12 +1,11 @@
 -- Amount leaves: a window with a rule.
-use mathlib.Core.Bool.{Bool, _&&_}
+use mathlib.Core.Bool.{Bool}
 use mathlib.Core.List.{List, _++_}
-use Prim.Native.Nat.{ℕ, _-_}
+use Prim.Native.Nat.{_-_}
 use lib.IntN.{ℤ}
 use lib.ListN.{length, replicate}
 use lib.Signed.{leZ}
 use Rattle.std.specs.declared.option.Option.{Option}
-use Rattle.std.specs.declared.option.Option.the-variants.{Some, None}
 use Rattle.divisors.specs.declared.fraction.Fraction.{Fraction}
 use Rattle.divisors.specs.declared.row.Row.{Row}
 use Rattle.divisors.specs.Fractions.{none}

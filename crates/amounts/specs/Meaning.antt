@@ -36,7 +36,7 @@ valueOf None = None
 valueOf (Some w) = amountOf (w .negative) (w .magnitude)
 
 -- what is read of a sheet admits exactly what is written there
-abbrev pub ReadMeans : Type 0
+unfoldable pub ReadMeans : Type 0
 ReadMeans =
     (s : List ℕ) (at : ℕ) (a : AmountLeaf) (e : ℕ) → leafAt s at ≡ found a e →
     (w : Written) × (writtenAt s at ≡ found w e) × Means (w .low) (w .high) (w .required) (w .barred) a

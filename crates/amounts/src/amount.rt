@@ -13,7 +13,11 @@ pub(crate) fn amount(negative: bool, magnitude: u64) -> Option<i64>
     ensures { λ r. ⌜ r ≡ amountOf negative magnitude ⌝ }
 {
     if !negative {
-        return if magnitude >> 63 == 0 { Some(magnitude as i64) } else { None };
+        return if magnitude >> 63 == 0 {
+            Some(magnitude as i64)
+        } else {
+            None
+        };
     }
     if magnitude == 0 || magnitude > 1 << 63 {
         return None;

@@ -1,4 +1,3 @@
-ghost use Prim.Native.Nat.{_≤_};
 ghost use Rattle.amounts.specs.Amounts.{amounts};
 ghost use Rattle.amounts.specs.Leaves.{isWindow, leafOf};
 ghost use Rattle.amounts.specs.Making.{after, bound, madeOf, windowOf};
@@ -9,7 +8,6 @@ ghost use Rattle.leaf.specs.Kind.{Lawful, is-window};
 ghost use Rattle.std.specs.Vec.{made};
 ghost use Rattle.std.specs.declared.option.Option.the-variants.{None};
 ghost use Rattle.std.specs.declared.result.Result.the-variants.{Ok};
-ghost use lib.ListN.{length};
 ghost use mathlib.Core.Bool.{true};
 ghost use mathlib.Core.Path.{_≡_};
 use crate::amount::WrittenAmount;
@@ -66,11 +64,7 @@ fn check_divisors(required: &[Fraction], barred: &[Fraction]) -> Result<(), Faul
 }
 
 // The leaf of these bounds and of divisors as written, which were looked at before.
-pub(crate) fn leaf_of(
-    bounds: Bounds<i64>,
-    required: &[Fraction],
-    barred: &[Fraction],
-) -> AmountLeaf
+pub(crate) fn leaf_of(bounds: Bounds<i64>, required: &[Fraction], barred: &[Fraction]) -> AmountLeaf
     requires required { ⌜ refusalOf (now required) ≡ None ⌝ }
     requires barred { ⌜ refusalOf (now barred) ≡ None ⌝ }
     ensures value { λ r. ⌜ r ≡ leafOf (bounds .minimum) (bounds .maximum) (now (required .entry)) (now (barred .entry)) ⌝ }

@@ -2,7 +2,9 @@
 mod amount;
 mod amount_leaf;
 mod grid;
+mod kind;
 mod reader;
 
 pub use amount::WrittenAmount;
 pub use amount_leaf::AmountLeaf;
+pub use kind::Amounts;

@@ -1,7 +1,7 @@
-ghost use Prim.Native.Nat.{ℕ, _+_, _<_, _≤_};
-ghost use Rattle.amounts.specs.Reading.{Listed, areFlags, boundAt, boundsAt, flagsAt, fractionAt, headAt, listAt, listOf, listsAt, partAt, placesOf};
+ghost use Prim.Native.Nat.{_+_, _<_};
+ghost use Rattle.amounts.specs.Meaning.{ReadMeans};
+ghost use Rattle.amounts.specs.Reading.{Listed, areFlags, boundAt, boundsAt, flagsAt, fractionAt, headAt, leafAt, listAt, listOf, listsAt, partAt, placesOf};
 ghost use Rattle.leaf.specs.Faults.{Fills, found, next, seen};
-ghost use Rattle.std.specs.Vec.{made};
 ghost use lib.ListN.{drop, length};
 ghost use mathlib.Core.Path.{_≡_};
 use crate::amount::amount;
@@ -25,7 +25,13 @@ const FLAGS: u8 = 16;
 // The largest numerator and denominator.
 const LARGEST: u64 = 0x7fff_ffff_ffff_ffff;
 
+// What stands in the free places of a list.
 const NONE: Fraction = Fraction { p: 0, q: 0 };
+
+const NO_LIST: WrittenList = WrittenList {
+    items: [NONE; 6],
+    count: 0,
+};
 
 // Divisors as they stand on a sheet.
 #[derive(Clone, Copy)]
@@ -156,10 +162,7 @@ fn list_at(sheet: &[u8], start: usize, into: &mut WrittenList) -> Result<usize, 
 }
 
 // The flags and the bounds of the leaf at `start`, and the place past them.
-fn head_at(
-    sheet: &[u8],
-    start: usize,
-) -> Result<((Option<i64>, Option<i64>), usize), Fault>
+fn head_at(sheet: &[u8], start: usize) -> Result<((Option<i64>, Option<i64>), usize), Fault>
     ensures { λ r. ⌜ seen r ≡ headAt (now (sheet .entry)) start ⌝ }
 {
     let (flags, at_bounds) = flags_at(sheet, start)?;
@@ -177,4 +180,31 @@ fn lists_at(
 {
     let at_barred = list_at(sheet, start, required)?;
     list_at(sheet, at_barred, barred)
+}
+
+// The leaf whose flags stand at `start`, into the place lent, which a refusal leaves as it was; the answer is where it ends.
+fn fill_leaf(sheet: &[u8], start: usize, place: &mut AmountLeaf) -> Result<usize, Fault>
+    ensures { λ r. ⌜ Fills (leafAt (now (sheet .entry)) start) (now (place .entry)) (now (place .exit)) r ⌝ }
+{
+    let mut required = NO_LIST;
+    let mut barred = NO_LIST;
+    let ((low, high), at_lists) = head_at(sheet, start)?;
+    let end = lists_at(sheet, at_lists, &mut required, &mut barred)?;
+    if !is_window(low, high) {
+        return Err(Fault::in_leaf(Refusal::MinAboveMax, start));
+    }
+    let bounds = Bounds {
+        minimum: low,
+        maximum: high,
+    };
+    *place = leaf_of(bounds, required.list(), barred.list());
+    Ok(end)
+}
+
+// The same, with what the leaf means.
+pub(crate) fn read_leaf(sheet: &[u8], start: usize, place: &mut AmountLeaf) -> Result<usize, Fault>
+    ensures reads { λ r. ⌜ Fills (leafAt (now (sheet .entry)) start) (now (place .entry)) (now (place .exit)) r ⌝ }
+    ensures means { λ _. ⌜ ReadMeans ⌝ }
+{
+    fill_leaf(sheet, start, place)
 }

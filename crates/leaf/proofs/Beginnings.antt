@@ -1,13 +1,13 @@
 -- Refusal 2 is for bytes that more bytes could make a number of, 3 for those that none can; the shortest form is the shortest.
 use mathlib.Core.Path.{_≡_, refl, sym, ap, subst, _∙_}
 use mathlib.Core.List.{List, [], _∷_, _++_}
-use mathlib.Core.Logic.{_⊎_, inl, inr, ⊎-elim}
-use Prim.Native.Nat.{ℕ, zero, suc, _+_, _-_, _*_, _/_, _^_, _%_, _≤_, _<_}
+use mathlib.Core.Logic.{_⊎_, inl, inr}
+use Prim.Native.Nat.{ℕ, zero, suc, _+_, _-_, _*_, _^_, _≤_, _<_}
 use native.Mathlib.Omega.{arith}
 use native.Mathlib.Numerals.{unary-clauses}
 use lib.ListN.{length, take}
 use Rattle.std.proofs.shelf.Lists.{append-assoc, length-append, append-nil}
-use Rattle.leaf.specs.Encoding.{Follow, value, Spelt, Improper, Written, CutShort, Overlong, Beginning, Told, Shortest, NumbersStand}
+use Rattle.leaf.specs.Encoding.{Follow, value, Written, CutShort, Overlong, Beginning, Told, Shortest, NumbersStand}
 use Rattle.leaf.proofs.Writing.{numbers, one-of, one-of-three}
 use Rattle.leaf.proofs.Encodes.{one-to-one, positive}
 

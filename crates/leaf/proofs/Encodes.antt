@@ -1,16 +1,14 @@
 -- Encoding and reading are inverse to each other.
 use mathlib.Core.Path.{_≡_, refl, sym, ap, subst, _∙_}
 use mathlib.Core.List.{List, [], _∷_, _++_}
-use mathlib.Core.Bool.{cond}
-use mathlib.Core.Logic.{_⊎_, inl, inr, ⊎-elim}
 use Prim.Native.Nat.{ℕ, zero, suc, _+_, _-_, _*_, _/_, _^_, _%_, _≤_, _<_}
 use native.Mathlib.Omega.{arith}
 use native.Mathlib.Numerals.{unary-clauses}
 use lib.Dec.{ltb}
 use lib.ListN.{length, take}
-use Rattle.std.proofs.shelf.Tests.{cond-both, cond-true, cond-false, cases-lt, ltb-true, ltb-false, lt-ltb, le-ltb}
+use Rattle.std.proofs.shelf.Tests.{cond-both, cond-true, cond-false, ltb-true, ltb-false, lt-ltb, le-ltb}
 use Rattle.std.proofs.shelf.Lists.{append-assoc, length-append}
-use Rattle.leaf.specs.Encoding.{Follow, value, Spelt, Written, encoded, encode, Bytes, OneToOne}
+use Rattle.leaf.specs.Encoding.{Follow, value, Written, encoded, encode, Bytes, OneToOne}
 use Rattle.leaf.proofs.Writing.{ten}
 
 -- a row of groups with the value n, in its shortest form

@@ -1,6 +1,6 @@
 -- The join of two leaves of one rule: lawful, of that rule, with the lower minimum and the higher maximum.
 use mathlib.Core.Path.{_≡_, refl, sym, ap, subst, _∙_}
-use mathlib.Core.Bool.{Bool, true, false, _&&_}
+use mathlib.Core.Bool.{true, false, _&&_}
 use mathlib.Core.Logic.{_⊎_, inl, inr}
 use Rattle.std.proofs.shelf.Tests.{and-from, and-parts, cases-bool, cond-both, true≢false, false≢true}
 use Rattle.std.specs.declared.option.Option.{Option}

@@ -1,7 +1,7 @@
 -- Each answer about a number comes on its condition and on no other.
 use mathlib.Core.Path.{_≡_, refl, sym, ap, subst, _∙_}
 use mathlib.Core.List.{List, [], _∷_, _++_}
-use mathlib.Core.Bool.{Bool, true, false, cond}
+use mathlib.Core.Bool.{true, false}
 use mathlib.Core.Logic.{_⊎_, inl, inr, ⊎-elim}
 use Prim.Native.Nat.{ℕ, zero, suc, _+_, _-_, _*_, _^_, _%_, _≤_, _<_}
 use native.Mathlib.Omega.{arith}
@@ -9,11 +9,9 @@ use native.Mathlib.Numerals.{unary-clauses}
 use Rattle.std.proofs.shelf.Tests.{cond-both, cond-true, cond-false, cases-lt, ltb-true, ltb-false, lt-ltb, le-ltb, eq-eqb, ne-eqb, cases-eq}
 use lib.Dec.{ltb, eqb}
 use lib.ListN.{length, drop, take}
-use Rattle.std.specs.declared.option.Option.{Option}
-use Rattle.std.specs.declared.option.Option.the-variants.{Some, None}
 use Rattle.leaf.specs.Faults.{Answer, Refused, at-byte, found, refused}
 use Rattle.leaf.specs.Numbers.{Groups, short, long, whole, behind, groupsOf, proper, judged, numberAt}
-use Rattle.leaf.specs.Encoding.{Follow, value, Spelt, Proper, Improper, Written, CutShort, Overlong, EitherWay, Numbers, Judged, OneOfThree}
+use Rattle.leaf.specs.Encoding.{Follow, value, Spelt, Written, CutShort, Overlong, Numbers, OneOfThree}
 
 -- what is said of k groups at most
 abbrev pub Told : ℕ → List ℕ → Groups → Type 0

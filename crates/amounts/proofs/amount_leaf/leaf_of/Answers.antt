@@ -1,4 +1,4 @@
-use mathlib.Core.Path.{_≡_, sym, ap, subst, _∙_}
+use mathlib.Core.Path.{sym, subst}
 use Rattle.divisors.specs.Rows.{fractions}
 use Rattle.divisors.specs.declared.row.Row.{Row}
 use Rattle.divisors.specs.Written.{FoldOf, ThinOf}

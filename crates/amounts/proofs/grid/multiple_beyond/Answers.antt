@@ -1,5 +1,4 @@
 use native.Mathlib.Omega.{arith}
-use borrow.Author.Needs.{needs}
 use Rattle.std.proofs.shelf.Signed.{ints, toZ-ofZ}
 use Rattle.amounts.proofs.Snaps.{next-low, next-high}
 use Rattle.amounts.proofs.grid.multiple_beyond.Needs as need

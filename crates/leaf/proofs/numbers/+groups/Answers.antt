@@ -1,14 +1,13 @@
-use borrow.Author.Needs.{needs}
 use borrow.Author.Tests.{ltb-true, ltb-false}
 use native.Mathlib.Omega.{arith}
 use mathlib.Core.Logic.{inl, inr}
-use mathlib.Core.Path.{_≡_, ap, sym, _∙_}
+use mathlib.Core.Path.{ap, sym, _∙_}
 use Prim.Native.Nat.{_-_, _<_, _+_}
-use lib.ListN.{length, drop, getD}
+use lib.ListN.{length, getD}
 use Rattle.std.proofs.shelf.Lists.{length-take, length-drop}
 use Rattle.std.proofs.shelf.Results.{err-from-errBy}
 use Rattle.leaf.specs.Faults.{found, refused}
-use Rattle.leaf.specs.Numbers.{judged, groupsOf}
+use Rattle.leaf.specs.Numbers.{judged}
 use Rattle.leaf.proofs.Steps.{step-none, step-last, onward, refuses, spoils, finds, assembled}
 use Rattle.leaf.proofs.numbers.+groups.Needs as need
 use Rattle.leaf.proofs.numbers.+groups.Needs.{then-high-eq0·by·then-high-eq0, then-high-eq0·by·else-high-eq0·then-high-ne0}
