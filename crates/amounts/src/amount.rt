@@ -24,3 +24,12 @@ pub(crate) fn amount(negative: bool, magnitude: u64) -> Option<i64>
     }
     Some(-((magnitude - 1) as i64) - 1)
 }
+
+impl WrittenAmount {
+    // The amount, if it is from -2^63 to 2^63 - 1 and no minus zero.
+    pub fn value(self) -> Option<i64>
+        ensures { λ r. ⌜ r ≡ amountOf (self .negative) (self .magnitude) ⌝ }
+    {
+        amount(self.negative, self.magnitude)
+    }
+}

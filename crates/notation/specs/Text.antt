@@ -1,5 +1,5 @@
 -- Divisors as text.
-use mathlib.Core.Bool.{Bool, false, cond, _&&_}
+use mathlib.Core.Bool.{Bool, true, false, cond, _&&_}
 use mathlib.Core.List.{List, [], _∷_, map}
 use Prim.Native.Nat.{ℕ, suc, min, _+_, _-_, _*_, _^_}
 use lib.Dec.{eqb, leb, ltb}
@@ -8,6 +8,7 @@ use Rattle.std.specs.Options.{mapped}
 use Rattle.std.specs.declared.option.Option.{Option}
 use Rattle.std.specs.declared.option.Option.the-variants.{Some, None}
 use Rattle.divisors.specs.declared.fraction.Fraction.{Fraction}
+use Rattle.notation.specs.declared.SignedNumber.{SignedNumber}
 
 -- the place of the first byte c, or the length where there is none
 abbrev pub indexOf : ℕ → List ℕ → ℕ
@@ -62,3 +63,12 @@ isDash (b ∷ c ∷ bs) = false
 -- divisors between commas; a dash alone is none
 abbrev pub divisorsOf : List ℕ → Option (List Fraction)
 divisorsOf bs = cond (isDash bs) (Some []) (listed (map divisorOf (pieces 44 bs)))
+
+-- a dash in front
+abbrev pub dashed : List ℕ → Bool
+dashed [] = false
+dashed (b ∷ bs) = eqb b 45
+
+-- a number with a sign: a dash and digits, or digits
+abbrev pub signedOf : List ℕ → Option SignedNumber
+signedOf bs = cond (dashed bs) (mapped (λ n. record { negative = true; magnitude = n }) (numberOf (drop 1 bs))) (mapped (λ n. record { negative = false; magnitude = n }) (numberOf bs))

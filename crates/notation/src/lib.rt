@@ -1,6 +1,6 @@
-// Divisors as text: `p` or `p/q` in decimal, commas between them, `-` for none.
+// Numbers and divisors as text: a divisor is `p` or `p/q` in decimal, commas stand between divisors, `-` is an empty list.
 ghost use Prim.Native.Nat.{_+_, _≤_};
-ghost use Rattle.notation.specs.Text.{digitsAfter, divisorOf, divisorsOf, fractionOf, indexOf, isDash, listed, numberOf, pieces, withDigit};
+ghost use Rattle.notation.specs.Text.{dashed, digitsAfter, divisorOf, divisorsOf, fractionOf, indexOf, isDash, listed, numberOf, pieces, signedOf, withDigit};
 ghost use Rattle.std.specs.Of.Vec.{vec-items};
 ghost use Rattle.std.specs.Options.{mapped};
 ghost use Rattle.std.specs.Vec.{made};
@@ -87,6 +87,35 @@ pub fn number(text: &[u8]) -> Option<u64>
     match text {
         [] => None,
         _ => digits_after(0, text),
+    }
+}
+
+// A number with a sign: `-` before the digits, or nothing.
+#[derive(Clone, Copy)]
+pub struct SignedNumber {
+    pub negative: bool,
+    pub magnitude: u64,
+}
+
+// The number with a sign that a text writes, if it writes one.
+pub fn signed(text: &[u8]) -> Option<SignedNumber>
+    ensures { λ r. ⌜ r ≡ signedOf (now (text .entry)) ⌝ }
+{
+    let negative = starts_with_dash(text);
+    let magnitude = if negative { number(behind(text, 0))? } else { number(text)? };
+    Some(SignedNumber {
+        negative,
+        magnitude,
+    })
+}
+
+// Whether a text begins with a dash.
+fn starts_with_dash(text: &[u8]) -> bool
+    ensures { λ r. ⌜ r ≡ dashed (now (text .entry)) ⌝ }
+{
+    match text {
+        [b, ..] => *b == DASH,
+        _ => false,
     }
 }
 

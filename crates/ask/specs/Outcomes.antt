@@ -1,0 +1,39 @@
+-- What a question about an amount leaf comes to.
+use mathlib.Core.Bool.{Bool, true, false}
+use mathlib.Core.List.{List}
+use Prim.Native.Nat.{ℕ}
+use lib.IntN.{ℤ}
+use Rattle.std.specs.declared.option.Option.{Option}
+use Rattle.std.specs.declared.result.Result.{Result}
+use Rattle.std.specs.declared.result.Result.the-variants.{Ok, Err}
+use Rattle.divisors.specs.declared.fraction.Fraction.{Fraction}
+use Rattle.leaf.specs.declared.fault.Fault.{Fault}
+use Rattle.leaf.specs.Faults.{Refused, numberOf}
+use Rattle.leaf.specs.Kind.{admits}
+use Rattle.amounts.specs.declared.amount.WrittenAmount.{WrittenAmount}
+use Rattle.amounts.specs.declared.amount_leaf.AmountLeaf.{AmountLeaf}
+use Rattle.amounts.specs.Amounts.{amounts}
+use Rattle.amounts.specs.Making.{madeOf}
+use Rattle.ask.specs.declared.Answer.{Answer}
+use Rattle.ask.specs.declared.Answer.the-variants.{Yes, No, Refuses, Malformed}
+
+-- a yes or no, a refusal by its number, or text of another form
+pub data Outcome : Type 0 where
+  answered : Bool → Outcome
+  refused : ℕ → Outcome
+  malformed : Outcome
+
+-- the leaf is made first, then asked
+abbrev pub asked : Result AmountLeaf Refused → ℤ → Outcome
+asked (Ok a) v = answered (admits amounts a v)
+asked (Err f) v = refused (f .number)
+
+abbrev pub outcomeOf : Option WrittenAmount → Option WrittenAmount → List Fraction → List Fraction → ℤ → Outcome
+outcomeOf low high ws us v = asked (madeOf low high ws us) v
+
+-- the outcome that an answer says
+abbrev pub said : Answer → Outcome
+said Yes = answered true
+said No = answered false
+said (Refuses f) = refused (numberOf (f .refusal))
+said Malformed = malformed
