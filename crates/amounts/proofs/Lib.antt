@@ -10,3 +10,4 @@ pub mod Lengths
 pub mod Endings
 pub mod Read
 pub mod Shows
+pub mod Writes

@@ -5,3 +5,4 @@ pub mod Reading
 pub mod Making
 pub mod Amounts
 pub mod Meaning
+pub mod Text

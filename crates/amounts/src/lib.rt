@@ -4,6 +4,7 @@ mod amount_leaf;
 mod grid;
 mod kind;
 mod reader;
+mod text;
 
 pub use amount::WrittenAmount;
 pub use amount_leaf::AmountLeaf;

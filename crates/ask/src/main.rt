@@ -22,7 +22,9 @@ use std::io::Read;
 use std::io::Write;
 
 const LINE_FEED: u8 = 10;
+
 const SPACE: u8 = 32;
+
 const STAR: u8 = 42;
 
 // An answer to a question.
@@ -96,7 +98,11 @@ fn fields_of(line: &[u8]) -> Option<Fields<'_>> {
 // The text before the first space, if there is one.
 fn field(line: &[u8]) -> Option<&[u8]> {
     let end = find(line, SPACE);
-    if end < line.len() { Some(front(line, end)) } else { None }
+    if end < line.len() {
+        Some(front(line, end))
+    } else {
+        None
+    }
 }
 
 // The amount that a text writes.
@@ -203,7 +209,10 @@ fn ask_all<W: Write>(heap: Global, text: &[u8], out: &mut W) -> io::Result<()> {
     let answered = tally.answered;
     let refused = tally.refused;
     let malformed = tally.malformed;
-    write!(out, "answered {answered}, refused {refused}, malformed {malformed}\n")
+    write!(
+        out,
+        "answered {answered}, refused {refused}, malformed {malformed}\n"
+    )
 }
 
 fn main(rt: LibcRuntime) -> io::Result<()> {

@@ -79,3 +79,7 @@ in-leaf n b = record { number = n; byte = Some b; layer = 2 }
 
 abbrev pub unplaced : ℕ → Refused
 unplaced n = record { number = n; byte = None; layer = 2 }
+
+-- a text buffer that is too short: no byte, no layer
+abbrev pub no-room : Refused
+no-room = record { number = 11; byte = None; layer = 0 }

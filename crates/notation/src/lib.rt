@@ -102,7 +102,11 @@ pub fn signed(text: &[u8]) -> Option<SignedNumber>
     ensures { λ r. ⌜ r ≡ signedOf (now (text .entry)) ⌝ }
 {
     let negative = starts_with_dash(text);
-    let magnitude = if negative { number(behind(text, 0))? } else { number(text)? };
+    let magnitude = if negative {
+        number(behind(text, 0))?
+    } else {
+        number(text)?
+    };
     Some(SignedNumber {
         negative,
         magnitude,
