@@ -95,23 +95,23 @@ pub fn no_later<V: Copy, L: Leaf<V>>(a: &L, b: &L) -> bool
     is_low::<V, L>(a.minimum(), b.minimum())
 }
 
-// Whether b joins a, the one before it: the rules tie, and no value of their grid lies strictly between.
-pub fn adjoins<V: Copy, L: Leaf<V>>(a: &L, b: &L) -> bool
-    ensures { λ r. ⌜ r ≡ touches kind (now (a .entry)) (now (b .entry)) ⌝ }
+// Whether a leaf joins the one before it: the rules tie, and no value of their grid lies strictly between.
+pub fn adjoins<V: Copy, L: Leaf<V>>(earlier: &L, later: &L) -> bool
+    ensures { λ r. ⌜ r ≡ touches kind (now (earlier .entry)) (now (later .entry)) ⌝ }
 {
-    if !a.rule_at_most(b) {
+    if !earlier.rule_at_most(later) {
         return false;
     }
-    if !b.rule_at_most(a) {
+    if !later.rule_at_most(earlier) {
         return false;
     }
-    let Some(high) = a.maximum() else {
+    let Some(high) = earlier.maximum() else {
         return true;
     };
-    let Some(low) = b.minimum() else {
+    let Some(low) = later.minimum() else {
         return true;
     };
-    let Some(next) = a.next_on_grid(high) else {
+    let Some(next) = earlier.next_on_grid(high) else {
         return true;
     };
     L::at_most(low, next)

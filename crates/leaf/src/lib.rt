@@ -4,6 +4,7 @@ mod fault;
 mod kind;
 mod numbers;
 mod sheet;
+mod unplaced;
 
 pub use bounds::Bounds;
 pub use bounds::contains;
