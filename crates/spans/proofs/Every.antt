@@ -4,15 +4,15 @@ use mathlib.Core.Bool.{true, false, _&&_}
 use mathlib.Core.List.{List}
 use Prim.Native.Nat.{ℕ, _+_, _<_, _≤_, _^_}
 use native.Mathlib.Omega.{arith}
-use lib.Dec.{leb, ltb}
+use lib.Dec.{leb}
 use lib.ListN.{length}
 use Rattle.std.specs.declared.option.Option.{Option}
 use Rattle.std.specs.declared.option.Option.the-variants.{Some, None}
-use Rattle.std.proofs.shelf.Tests.{and-from, cond-both, le-leb, leb-false, leb-true, lt-leb, lt-ltb, ltb-false, ltb-true}
+use Rattle.std.proofs.shelf.Tests.{and-from, cond-both, le-leb, leb-false, leb-true, lt-leb, ltb-false, ltb-true}
 use Rattle.leaf.specs.Faults.{Answer, found, refused, in-leaf}
 use Rattle.leaf.specs.Kind.{Laws, WellRead, is-window, ext-le, from, upto}
 use Rattle.leaf.specs.Numbers.{numberAt}
-use Rattle.leaf.proofs.Chains.{Ends, ends-found, next-both, number-ends}
+use Rattle.leaf.proofs.Chains.{ends-found, next-both, number-ends}
 use Rattle.spans.specs.Spans.{dayAt, following, isBound, isDay, spanAt, spans, window}
 
 same-window : (x y : Option ℕ) → (isBound x && (isBound y && ext-le leb (from x) (upto y))) ≡ is-window spans x y
