@@ -11,3 +11,4 @@ pub mod Endings
 pub mod Read
 pub mod Shows
 pub mod Writes
+pub mod Works

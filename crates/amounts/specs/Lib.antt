@@ -6,3 +6,4 @@ pub mod Making
 pub mod Amounts
 pub mod Meaning
 pub mod Text
+pub mod Worked

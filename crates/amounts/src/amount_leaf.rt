@@ -2,6 +2,7 @@ ghost use Rattle.amounts.specs.Amounts.{amounts};
 ghost use Rattle.amounts.specs.Leaves.{isWindow, leafOf};
 ghost use Rattle.amounts.specs.Making.{after, bound, madeOf, windowOf};
 ghost use Rattle.amounts.specs.Meaning.{Means, valueOf};
+ghost use Rattle.amounts.specs.Worked.{WorkedLeaves};
 ghost use Rattle.divisors.specs.Written.{refusalOf, refusalOfBoth};
 ghost use Rattle.leaf.specs.Faults.{told};
 ghost use Rattle.leaf.specs.Kind.{Lawful, is-window};
@@ -116,6 +117,7 @@ impl AmountLeaf {
         ensures value { λ r. ⌜ told r ≡ madeOf minimum maximum (now (required .entry)) (now (barred .entry)) ⌝ }
         ensures sound { λ r. ⌜ made r (λ a. Lawful amounts a) ⌝ }
         ensures means { λ r. ⌜ made r (λ a. Means (valueOf minimum) (valueOf maximum) (now (required .entry)) (now (barred .entry)) a) ⌝ }
+        ensures worked { λ r. ⌜ made r (λ _. WorkedLeaves) ⌝ }
     {
         make_leaf(minimum, maximum, required, barred)
     }
@@ -131,6 +133,7 @@ fn make_leaf(
     ensures value { λ r. ⌜ told r ≡ madeOf minimum maximum (now (required .entry)) (now (barred .entry)) ⌝ }
     ensures sound { λ r. ⌜ made r (λ a. Lawful amounts a) ⌝ }
     ensures means { λ r. ⌜ made r (λ a. Means (valueOf minimum) (valueOf maximum) (now (required .entry)) (now (barred .entry)) a) ⌝ }
+    ensures worked { λ r. ⌜ made r (λ _. WorkedLeaves) ⌝ }
 {
     check_divisors(required, barred)?;
     let bounds = window_of(minimum, maximum)?;

@@ -12,6 +12,7 @@ use Rattle.amounts.specs.Making.{after, windowOf}
 use Rattle.amounts.specs.Meaning.{Means, valueOf}
 use Rattle.divisors.specs.Written.{refusalOfBoth}
 use Rattle.amounts.proofs.Windows.{not-refused, window-is}
+use Rattle.amounts.proofs.Works.{worked-leaves}
 use Rattle.amounts.proofs.amount_leaf.make_leaf.Needs as need
 
 pub returns : need.returns
@@ -32,4 +33,5 @@ returns c =
       means =
           subst (λ (h : Option ℤ). Means (valueOf (c .args .minimum)) h ws us a) (w .high-is)
           (subst (λ (l : Option ℤ). Means l (b .maximum) ws us a) (w .low-is) (c .leaf-of .ensures .means));
+      worked = worked-leaves;
     }
