@@ -5,7 +5,7 @@ use mathlib.Core.Logic.{_⊎_, inl, inr}
 use Rattle.std.proofs.shelf.Tests.{and-from, and-parts, cases-bool, cond-both, true≢false, false≢true}
 use Rattle.std.specs.declared.option.Option.{Option}
 use Rattle.std.specs.declared.option.Option.the-variants.{Some, None}
-use Rattle.leaf.specs.Kind.{Kind, Laws, Lawful, ext-le, from, higher-of, is-bound, is-window, join, lower-of, same-rule, upto}
+use Rattle.leaf.specs.Kind.{Higher, Joins, Kind, Laws, Lawful, Lower, ext-le, from, higher-of, is-bound, is-window, join, lower-of, same-rule, upto}
 
 module _ {V L : Type 0} (k : Kind V L) (laws : Laws k) where
   le-refl : (a : V) → k .le a a ≡ true
@@ -34,18 +34,11 @@ module _ {V L : Type 0} (k : Kind V L) (laws : Laws k) where
   high-total (Some x) None h = absurd (true≢false h)
   high-total (Some x) (Some y) h = laws .le-total x y h
 
-  -- the lower of two minimums: no higher than either, and one of them
-  abbrev pub Lower : Option V → Option V → Option V → Type 0
-  Lower r a b = (ext-le (k .le) (from r) (from a) ≡ true) × (ext-le (k .le) (from r) (from b) ≡ true) × ((r ≡ a) ⊎ (r ≡ b))
+  pub lower : (a b : Option V) → Lower k (lower-of (k .le) a b) a b
+  lower a b = cond-both (ext-le (k .le) (from a) (from b)) a b (λ r. Lower k r a b) (λ t. (low-refl a, t, inl refl)) (λ f. (low-total a b f, low-refl b, inr refl))
 
-  abbrev pub Higher : Option V → Option V → Option V → Type 0
-  Higher r a b = (ext-le (k .le) (upto a) (upto r) ≡ true) × (ext-le (k .le) (upto b) (upto r) ≡ true) × ((r ≡ a) ⊎ (r ≡ b))
-
-  pub lower : (a b : Option V) → Lower (lower-of (k .le) a b) a b
-  lower a b = cond-both (ext-le (k .le) (from a) (from b)) a b (λ r. Lower r a b) (λ t. (low-refl a, t, inl refl)) (λ f. (low-total a b f, low-refl b, inr refl))
-
-  pub higher : (a b : Option V) → Higher (higher-of (k .le) a b) a b
-  higher a b = cond-both (ext-le (k .le) (upto a) (upto b)) b a (λ r. Higher r a b) (λ t. (t, high-refl b, inr refl)) (λ f. (high-refl a, high-total a b f, inl refl))
+  pub higher : (a b : Option V) → Higher k (higher-of (k .le) a b) a b
+  higher a b = cond-both (ext-le (k .le) (upto a) (upto b)) b a (λ r. Higher k r a b) (λ t. (t, high-refl b, inr refl)) (λ f. (high-refl a, high-total a b f, inl refl))
 
   -- a window whose minimum falls and whose maximum rises
   wider : (a b c d : Option V) → ext-le (k .le) (from c) (from a) ≡ true → ext-le (k .le) (upto b) (upto d) ≡ true → ext-le (k .le) (from a) (upto b) ≡ true → ext-le (k .le) (from c) (upto d) ≡ true
@@ -76,14 +69,10 @@ module _ {V L : Type 0} (k : Kind V L) (laws : Laws k) where
     spans : is-window k (lower-of (k .le) (k .minimum a) (k .minimum b)) (higher-of (k .le) (k .maximum a) (k .maximum b)) ≡ true
     spans = hull-window (k .minimum a) (k .maximum a) (k .minimum b) (k .maximum b) (laws .window a p) (laws .window b q)
 
-    pub join-lawful : Lawful k (join k a b)
-    join-lawful = laws .widened-lawful a b _ _ p q s spans
-
-    pub join-rule : same-rule k a (join k a b) ≡ true
-    join-rule = laws .widened-rule a b _ _ p q s spans
-
-  pub join-min : (a b : L) → Lower (k .minimum (join k a b)) (k .minimum a) (k .minimum b)
-  join-min a b = subst (λ (r : Option V). Lower r (k .minimum a) (k .minimum b)) (sym (laws .widened-minimum a b _ _)) (lower (k .minimum a) (k .minimum b))
-
-  pub join-max : (a b : L) → Higher (k .maximum (join k a b)) (k .maximum a) (k .maximum b)
-  join-max a b = subst (λ (r : Option V). Higher r (k .maximum a) (k .maximum b)) (sym (laws .widened-maximum a b _ _)) (higher (k .maximum a) (k .maximum b))
+    pub join-joins : Joins k a b (join k a b)
+    join-joins = record {
+      lawful = laws .widened-lawful a b _ _ p q s spans;
+      rule = laws .widened-rule a b _ _ p q s spans;
+      minimum = subst (λ (r : Option V). Lower k r (k .minimum a) (k .minimum b)) (sym (laws .widened-minimum a b _ _)) (lower (k .minimum a) (k .minimum b));
+      maximum = subst (λ (r : Option V). Higher k r (k .maximum a) (k .maximum b)) (sym (laws .widened-maximum a b _ _)) (higher (k .maximum a) (k .maximum b));
+    }

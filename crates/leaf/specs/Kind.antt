@@ -2,6 +2,7 @@
 use mathlib.Core.Path.{_≡_}
 use mathlib.Core.Bool.{Bool, true, false, cond, not, _&&_, _||_}
 use mathlib.Core.List.{List}
+use mathlib.Core.Logic.{_⊎_}
 use Prim.Native.Nat.{ℕ, _<_, _≤_}
 use lib.ListN.{length}
 use Rattle.std.specs.declared.option.Option.{Option}
@@ -99,6 +100,13 @@ module _ {V L : Type 0} (k : Kind V L) where
   abbrev pub join : L → L → L
   join a b = k .widened a b (lower-of (k .le) (k .minimum a) (k .minimum b)) (higher-of (k .le) (k .maximum a) (k .maximum b))
 
+  -- the lower of two minimums: no higher than either, and one of them; the higher of two maximums likewise
+  abbrev pub Lower : Option V → Option V → Option V → Type 0
+  Lower r a b = (ext-le (k .le) (from r) (from a) ≡ true) × (ext-le (k .le) (from r) (from b) ≡ true) × ((r ≡ a) ⊎ (r ≡ b))
+
+  abbrev pub Higher : Option V → Option V → Option V → Type 0
+  Higher r a b = (ext-le (k .le) (upto a) (upto r) ≡ true) × (ext-le (k .le) (upto b) (upto r) ≡ true) × ((r ≡ a) ⊎ (r ≡ b))
+
   abbrev pub is-bound : Option V → Bool
   is-bound None = true
   is-bound (Some v) = k .is-value v
@@ -109,6 +117,13 @@ module _ {V L : Type 0} (k : Kind V L) where
 
   abbrev pub Lawful : L → Type 0
   Lawful a = k .lawful a ≡ true
+
+  -- what a join is: lawful, of the rule, with the lower minimum and the higher maximum
+  pub record Joins (a b r : L) : Type 0 where
+    pub lawful : Lawful r
+    pub rule : same-rule a r ≡ true
+    pub minimum : Lower (k .minimum r) (k .minimum a) (k .minimum b)
+    pub maximum : Higher (k .maximum r) (k .maximum a) (k .maximum b)
 
   -- what is read is lawful and ends past its start and within the sheet
   abbrev pub WellRead : List ℕ → ℕ → Answer L → Type 0

@@ -1,6 +1,7 @@
 ghost use Rattle.leaf.specs.Faults.{Fills};
-ghost use Rattle.leaf.specs.Kind.{Kind, Laws, touches, before};
+ghost use Rattle.leaf.specs.Kind.{Joins, Kind, Lawful, Laws, before, same-rule, touches};
 ghost use Rattle.leaf.specs.Kind.{admits as admitted, covers as covering, join as joined};
+ghost use mathlib.Core.Bool.{true};
 ghost use mathlib.Core.Path.{_≡_};
 use crate::bounds::Bounds;
 use crate::bounds::contains;
@@ -129,7 +130,8 @@ pub fn covers<V: Copy, L: Leaf<V>>(a: &L, b: &L) -> bool
 
 // Two leaves of one rule joined: the lower minimum and the higher maximum.
 pub fn join<V: Copy, L: Leaf<V>>(a: &L, b: &L) -> L
-    ensures { λ r. ⌜ r ≡ joined kind (now (a .entry)) (now (b .entry)) ⌝ }
+    ensures value { λ r. ⌜ r ≡ joined kind (now (a .entry)) (now (b .entry)) ⌝ }
+    ensures joins { λ r. ⌜ (Lawful kind (now (a .entry)) → Lawful kind (now (b .entry)) → same-rule kind (now (a .entry)) (now (b .entry)) ≡ true → Joins kind (now (a .entry)) (now (b .entry)) r) ⌝ }
 {
     a.widened(b, hull::<V, L>(bounds_of(a), bounds_of(b)))
 }
