@@ -36,4 +36,4 @@ abbrev pub said : Answer → Outcome
 said Yes = answered true
 said No = answered false
 said (Refuses f) = refused (numberOf (f .refusal))
-said Malformed = malformed
+said (Malformed w) = malformed

@@ -27,13 +27,24 @@ const SPACE: u8 = 32;
 
 const STAR: u8 = 42;
 
+// What is wrong with a line's text.
+#[derive(Clone, Copy)]
+enum Wrong {
+    Fields,
+    Minimum,
+    Maximum,
+    Required,
+    Barred,
+    Value,
+}
+
 // An answer to a question.
 #[derive(Clone, Copy)]
 enum Answer {
     Yes,
     No,
     Refuses(Fault),
-    Malformed,
+    Malformed(Wrong),
 }
 
 // How many questions came to what.
@@ -126,27 +137,39 @@ fn bound_of(text: &[u8]) -> Option<Option<WrittenAmount>> {
 // What a line comes to.
 fn ask_line(heap: Global, line: &[u8]) -> Result<Answer, AllocError> {
     let Some(fields) = fields_of(line) else {
-        return Ok(Answer::Malformed);
+        return Ok(Answer::Malformed(Wrong::Fields));
     };
     let Some(minimum) = bound_of(fields.minimum) else {
-        return Ok(Answer::Malformed);
+        return Ok(Answer::Malformed(Wrong::Minimum));
     };
     let Some(maximum) = bound_of(fields.maximum) else {
-        return Ok(Answer::Malformed);
+        return Ok(Answer::Malformed(Wrong::Maximum));
     };
     let Some(required) = divisors(heap, fields.required)? else {
-        return Ok(Answer::Malformed);
+        return Ok(Answer::Malformed(Wrong::Required));
     };
     let Some(barred) = divisors(heap, fields.barred)? else {
-        return Ok(Answer::Malformed);
+        return Ok(Answer::Malformed(Wrong::Barred));
     };
     let Some(written) = amount_of(fields.value) else {
-        return Ok(Answer::Malformed);
+        return Ok(Answer::Malformed(Wrong::Value));
     };
     let Some(v) = written.value() else {
-        return Ok(Answer::Malformed);
+        return Ok(Answer::Malformed(Wrong::Value));
     };
     Ok(ask_leaf(minimum, maximum, &required, &barred, v))
+}
+
+// What is said of it.
+fn what(wrong: Wrong) -> &'static str {
+    match wrong {
+        Wrong::Fields => "not five fields with a space between",
+        Wrong::Minimum => "the minimum is no amount",
+        Wrong::Maximum => "the maximum is no amount",
+        Wrong::Required => "the required list is no list of divisors",
+        Wrong::Barred => "the barred list is no list of divisors",
+        Wrong::Value => "the value is no 64-bit amount",
+    }
 }
 
 // The number by which a refusal goes.
@@ -184,9 +207,10 @@ fn report<W: Write>(out: &mut W, tally: &mut Tally, k: u64, answer: Answer) -> i
             let n = number(fault.refusal);
             write!(out, "refused {n}\n")
         }
-        Answer::Malformed => {
+        Answer::Malformed(wrong) => {
             tally.malformed = tally.malformed.saturating_add(1);
-            write!(out, "line {k}: not MIN MAX REQUIRED BARRED VALUE\n")
+            let text = what(wrong);
+            write!(out, "line {k}: {text}\n")
         }
     }
 }
