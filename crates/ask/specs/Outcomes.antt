@@ -1,12 +1,17 @@
 -- What a question about an amount leaf comes to.
-use mathlib.Core.Bool.{Bool, true, false}
-use mathlib.Core.List.{List}
+use mathlib.Core.Bool.{Bool, true, false, cond}
+use mathlib.Core.List.{List, [], _∷_}
 use Prim.Native.Nat.{ℕ}
+use lib.Dec.{eqb}
 use lib.IntN.{ℤ}
+use Rattle.std.specs.Options.{mapped}
 use Rattle.std.specs.declared.option.Option.{Option}
+use Rattle.std.specs.declared.option.Option.the-variants.{Some, None}
 use Rattle.std.specs.declared.result.Result.{Result}
 use Rattle.std.specs.declared.result.Result.the-variants.{Ok, Err}
 use Rattle.divisors.specs.declared.fraction.Fraction.{Fraction}
+use Rattle.notation.specs.declared.SignedNumber.{SignedNumber}
+use Rattle.notation.specs.Text.{signedOf}
 use Rattle.leaf.specs.declared.fault.Fault.{Fault}
 use Rattle.leaf.specs.Faults.{Refused, numberOf}
 use Rattle.leaf.specs.Kind.{admits}
@@ -16,6 +21,20 @@ use Rattle.amounts.specs.Amounts.{amounts}
 use Rattle.amounts.specs.Making.{madeOf}
 use Rattle.ask.specs.declared.Answer.{Answer}
 use Rattle.ask.specs.declared.Answer.the-variants.{Yes, No, Refuses, Malformed}
+
+-- the amount that a text writes: an optional dash and digits
+abbrev pub amountIn : List ℕ → Option WrittenAmount
+amountIn bs = mapped (λ n. record { magnitude = n .magnitude; negative = n .negative }) (signedOf bs)
+
+-- a star alone
+abbrev pub isStar : List ℕ → Bool
+isStar [] = false
+isStar (b ∷ []) = eqb b 42
+isStar (b ∷ c ∷ bs) = false
+
+-- the bound that a text writes, absent where it is a star
+abbrev pub boundIn : List ℕ → Option (Option WrittenAmount)
+boundIn bs = cond (isStar bs) (Some None) (mapped Some (amountIn bs))
 
 -- a yes or no, a refusal by its number, or text of another form
 pub data Outcome : Type 0 where

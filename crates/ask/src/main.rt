@@ -1,5 +1,5 @@
 // Answers questions about amounts: each line of standard input is an amount leaf as text and a value.
-ghost use Rattle.ask.specs.Outcomes.{outcomeOf, said};
+ghost use Rattle.ask.specs.Outcomes.{amountIn, boundIn, outcomeOf, said};
 ghost use Rattle.leaf.specs.Faults.{numberOf};
 ghost use mathlib.Core.Path.{_≡_};
 use amounts::AmountLeaf;
@@ -117,7 +117,9 @@ fn field(line: &[u8]) -> Option<&[u8]> {
 }
 
 // The amount that a text writes.
-fn amount_of(text: &[u8]) -> Option<WrittenAmount> {
+fn amount_of(text: &[u8]) -> Option<WrittenAmount>
+    ensures { λ r. ⌜ r ≡ amountIn (now (text .entry)) ⌝ }
+{
     let n = signed(text)?;
     Some(WrittenAmount {
         magnitude: n.magnitude,
@@ -126,7 +128,9 @@ fn amount_of(text: &[u8]) -> Option<WrittenAmount> {
 }
 
 // The bound that a text writes, absent where it is a star.
-fn bound_of(text: &[u8]) -> Option<Option<WrittenAmount>> {
+fn bound_of(text: &[u8]) -> Option<Option<WrittenAmount>>
+    ensures { λ r. ⌜ r ≡ boundIn (now (text .entry)) ⌝ }
+{
     if let [STAR] = text {
         return Some(None);
     }
