@@ -1,9 +1,10 @@
 -- What a question about an amount leaf comes to.
 use mathlib.Core.Bool.{Bool, true, false, cond}
 use mathlib.Core.List.{List, [], _∷_}
-use Prim.Native.Nat.{ℕ}
-use lib.Dec.{eqb}
+use Prim.Native.Nat.{ℕ, _+_}
+use lib.Dec.{eqb, ltb}
 use lib.IntN.{ℤ}
+use lib.ListN.{drop, length, take}
 use Rattle.std.specs.Options.{mapped}
 use Rattle.std.specs.declared.option.Option.{Option}
 use Rattle.std.specs.declared.option.Option.the-variants.{Some, None}
@@ -11,7 +12,7 @@ use Rattle.std.specs.declared.result.Result.{Result}
 use Rattle.std.specs.declared.result.Result.the-variants.{Ok, Err}
 use Rattle.divisors.specs.declared.fraction.Fraction.{Fraction}
 use Rattle.notation.specs.declared.SignedNumber.{SignedNumber}
-use Rattle.notation.specs.Text.{signedOf}
+use Rattle.notation.specs.Text.{indexOf, signedOf}
 use Rattle.leaf.specs.declared.fault.Fault.{Fault}
 use Rattle.leaf.specs.Faults.{Refused, numberOf}
 use Rattle.leaf.specs.Kind.{admits}
@@ -20,6 +21,7 @@ use Rattle.amounts.specs.declared.amount_leaf.AmountLeaf.{AmountLeaf}
 use Rattle.amounts.specs.Amounts.{amounts}
 use Rattle.amounts.specs.Making.{madeOf}
 use Rattle.ask.specs.declared.Answer.{Answer}
+use Rattle.ask.specs.declared.Fields.{Fields}
 use Rattle.ask.specs.declared.Answer.the-variants.{Yes, No, Refuses, Malformed}
 
 -- the amount that a text writes: an optional dash and digits
@@ -35,6 +37,34 @@ isStar (b ∷ c ∷ bs) = false
 -- the bound that a text writes, absent where it is a star
 abbrev pub boundIn : List ℕ → Option (Option WrittenAmount)
 boundIn bs = cond (isStar bs) (Some None) (mapped Some (amountIn bs))
+
+-- the five fields of a line
+pub record Texts : Type 0 where
+  pub minimum : List ℕ
+  pub maximum : List ℕ
+  pub required : List ℕ
+  pub barred : List ℕ
+  pub value : List ℕ
+
+abbrev pub texts : Fields → Texts
+texts f = record { minimum = f .minimum .now; maximum = f .maximum .now; required = f .required .now; barred = f .barred .now; value = f .value .now }
+
+-- the text before the first space, if there is one, and what is behind a field
+abbrev pub fieldIn : List ℕ → Option (List ℕ)
+fieldIn bs = cond (ltb (indexOf 32 bs) (length bs)) (Some (take (indexOf 32 bs) bs)) None
+
+abbrev pub past : List ℕ → List ℕ → List ℕ
+past field bs = drop (length field + 1) bs
+
+abbrev pub andThen : {A B : Type 0} → Option A → (A → Option B) → Option B
+andThen None f = None
+andThen (Some x) f = f x
+
+-- five fields with one space between: what is behind the fourth is the fifth
+abbrev pub fieldsIn : List ℕ → Option Texts
+fieldsIn s =
+    andThen (fieldIn s) (λ a. andThen (fieldIn (past a s)) (λ b. andThen (fieldIn (past b (past a s))) (λ c. andThen (fieldIn (past c (past b (past a s)))) (λ d.
+    Some (record { minimum = a; maximum = b; required = c; barred = d; value = past d (past c (past b (past a s))) })))))
 
 -- a yes or no, a refusal by its number, or text of another form
 pub data Outcome : Type 0 where

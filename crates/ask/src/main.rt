@@ -1,6 +1,7 @@
 // Answers questions about amounts: each line of standard input is an amount leaf as text and a value.
-ghost use Rattle.ask.specs.Outcomes.{amountIn, boundIn, outcomeOf, said};
+ghost use Rattle.ask.specs.Outcomes.{amountIn, boundIn, fieldIn, fieldsIn, outcomeOf, said, texts};
 ghost use Rattle.leaf.specs.Faults.{numberOf};
+ghost use Rattle.std.specs.Options.{mapped};
 ghost use mathlib.Core.Path.{_≡_};
 use amounts::AmountLeaf;
 use amounts::Amounts;
@@ -88,7 +89,9 @@ fn ask_leaf(
 }
 
 // Five fields with one space between, if the line has as many.
-fn fields_of(line: &[u8]) -> Option<Fields<'_>> {
+fn fields_of(line: &[u8]) -> Option<Fields<'_>>
+    ensures { λ r. ⌜ mapped texts r ≡ fieldsIn (now (line .entry)) ⌝ }
+{
     let minimum = field(line)?;
     let line = behind(line, minimum.len());
     let maximum = field(line)?;
@@ -107,7 +110,9 @@ fn fields_of(line: &[u8]) -> Option<Fields<'_>> {
 }
 
 // The text before the first space, if there is one.
-fn field(line: &[u8]) -> Option<&[u8]> {
+fn field(line: &[u8]) -> Option<&[u8]>
+    ensures { λ r. ⌜ mapped (λ t. t .now) r ≡ fieldIn (now (line .entry)) ⌝ }
+{
     let end = find(line, SPACE);
     if end < line.len() {
         Some(front(line, end))
