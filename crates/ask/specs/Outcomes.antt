@@ -12,7 +12,7 @@ use Rattle.std.specs.declared.result.Result.{Result}
 use Rattle.std.specs.declared.result.Result.the-variants.{Ok, Err}
 use Rattle.divisors.specs.declared.fraction.Fraction.{Fraction}
 use Rattle.notation.specs.declared.SignedNumber.{SignedNumber}
-use Rattle.notation.specs.Text.{indexOf, signedOf}
+use Rattle.notation.specs.Text.{divisorsOf, indexOf, signedOf}
 use Rattle.leaf.specs.declared.fault.Fault.{Fault}
 use Rattle.leaf.specs.Faults.{Refused, numberOf}
 use Rattle.leaf.specs.Kind.{admits}
@@ -20,8 +20,11 @@ use Rattle.amounts.specs.declared.amount.WrittenAmount.{WrittenAmount}
 use Rattle.amounts.specs.declared.amount_leaf.AmountLeaf.{AmountLeaf}
 use Rattle.amounts.specs.Amounts.{amounts}
 use Rattle.amounts.specs.Making.{madeOf}
+use Rattle.amounts.specs.Values.{amountOf}
 use Rattle.ask.specs.declared.Answer.{Answer}
 use Rattle.ask.specs.declared.Fields.{Fields}
+use Rattle.ask.specs.declared.Wrong.{Wrong}
+use Rattle.ask.specs.declared.Wrong.the-variants.{Fields as NotFive, Minimum, Maximum, Required, Barred, Value}
 use Rattle.ask.specs.declared.Answer.the-variants.{Yes, No, Refuses, Malformed}
 
 -- the amount that a text writes: an optional dash and digits
@@ -70,7 +73,7 @@ fieldsIn s =
 pub data Outcome : Type 0 where
   answered : Bool → Outcome
   refused : ℕ → Outcome
-  malformed : Outcome
+  malformed : Wrong → Outcome
 
 -- the leaf is made first, then asked
 abbrev pub asked : Result AmountLeaf Refused → ℤ → Outcome
@@ -80,9 +83,27 @@ asked (Err f) v = refused (f .number)
 abbrev pub outcomeOf : Option WrittenAmount → Option WrittenAmount → List Fraction → List Fraction → ℤ → Outcome
 outcomeOf low high ws us v = asked (madeOf low high ws us) v
 
+-- what is read goes on, and what is not read is what is wrong
+abbrev pub orElse : {A : Type 0} → Wrong → Option A → (A → Outcome) → Outcome
+orElse w None f = malformed w
+orElse w (Some x) f = f x
+
+-- the amount asked about
+abbrev pub valueIn : List ℕ → Option ℤ
+valueIn bs = andThen (amountIn bs) (λ w. amountOf (w .negative) (w .magnitude))
+
+abbrev pub textsOutcome : Texts → Outcome
+textsOutcome t =
+    orElse Minimum (boundIn (t .minimum)) (λ low. orElse Maximum (boundIn (t .maximum)) (λ high.
+    orElse Required (divisorsOf (t .required)) (λ ws. orElse Barred (divisorsOf (t .barred)) (λ us. orElse Value (valueIn (t .value)) (λ v. outcomeOf low high ws us v)))))
+
+-- what a line comes to
+abbrev pub lineOutcome : List ℕ → Outcome
+lineOutcome s = orElse NotFive (fieldsIn s) textsOutcome
+
 -- the outcome that an answer says
 abbrev pub said : Answer → Outcome
 said Yes = answered true
 said No = answered false
 said (Refuses f) = refused (numberOf (f .refusal))
-said (Malformed w) = malformed
+said (Malformed w) = malformed w

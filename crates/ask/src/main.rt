@@ -1,7 +1,8 @@
 // Answers questions about amounts: each line of standard input is an amount leaf as text and a value.
-ghost use Rattle.ask.specs.Outcomes.{amountIn, boundIn, fieldIn, fieldsIn, outcomeOf, said, texts};
+ghost use Rattle.ask.specs.Outcomes.{amountIn, boundIn, fieldIn, fieldsIn, lineOutcome, outcomeOf, said, texts};
 ghost use Rattle.leaf.specs.Faults.{numberOf};
 ghost use Rattle.std.specs.Options.{mapped};
+ghost use Rattle.std.specs.Vec.{made};
 ghost use mathlib.Core.Path.{_≡_};
 use amounts::AmountLeaf;
 use amounts::Amounts;
@@ -144,7 +145,9 @@ fn bound_of(text: &[u8]) -> Option<Option<WrittenAmount>>
 }
 
 // What a line comes to.
-fn ask_line(heap: Global, line: &[u8]) -> Result<Answer, AllocError> {
+fn ask_line(heap: Global, line: &[u8]) -> Result<Answer, AllocError>
+    ensures { λ r. ⌜ made r (λ a. said a ≡ lineOutcome (now (line .entry))) ⌝ }
+{
     let Some(fields) = fields_of(line) else {
         return Ok(Answer::Malformed(Wrong::Fields));
     };
