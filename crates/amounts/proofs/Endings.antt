@@ -13,7 +13,7 @@ use Rattle.std.specs.declared.option.Option.the-variants.{Some, None}
 use Rattle.divisors.specs.declared.fraction.Fraction.{Fraction}
 use Rattle.divisors.specs.Fractions.{inRange}
 use Rattle.divisors.specs.Written.{areInRange, refusalOf}
-use Rattle.leaf.specs.Faults.{Answer, found, refused, at-byte, in-leaf}
+use Rattle.leaf.specs.Faults.{Answer, found, refused, at-byte}
 use Rattle.leaf.specs.Numbers.{hasBit, numberAt}
 use Rattle.leaf.specs.Kind.{is-bound}
 use Rattle.leaf.proofs.Chains.{next-both, Ends, ends-found, number-ends}
@@ -77,7 +77,7 @@ part-end : (s : List ℕ) (i : ℕ) → Part s i (partAt s i)
 part-end s i =
     next-both (numberAt s i) _ (Part s i) (λ _. tt) (λ n e p.
     let a = ends-found s i (numberAt s i) n e (number-ends s i) p in
-    cond-both (ltb 0 n && ltb n (2 ^ 63)) (found n e) (refused (in-leaf 5 i)) (Part s i) (λ t. (t, a .0, a .1)) (λ _. tt))
+    cond-both (ltb 0 n && ltb n (2 ^ 63)) (found n e) (refused (at-byte 5 i)) (Part s i) (λ t. (t, a .0, a .1)) (λ _. tt))
 
 abbrev Divisor : List ℕ → ℕ → Answer Fraction → Type 0
 Divisor s i (found f e) = (inRange f ≡ true) × (i < e) × (e ≤ length s)
@@ -118,7 +118,7 @@ unfolding listAt
 list-end s i =
     next-both (numberAt s i) _ (Listing s i) (λ _. tt) (λ n e p.
     let a = ends-found s i (numberAt s i) n e (number-ends s i) p in
-    cond-both (ltb 6 n) (refused (in-leaf 6 i)) (fractionsAt n s e) (Listing s i) (λ _. tt)
+    cond-both (ltb 6 n) (refused (at-byte 6 i)) (fractionsAt n s e) (Listing s i) (λ _. tt)
     (λ f. counted s i e n (fractionsAt n s e) (a .0) (ltb-false 6 n f) (divisors-end n s e (a .1))))
 
 -- nothing is refused of a list that was read

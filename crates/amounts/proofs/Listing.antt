@@ -7,7 +7,7 @@ use mathlib.Core.List.{List, [], _∷_, _++_}
 use Prim.Native.Nat.{ℕ, suc, _+_, _-_, _<_, _≤_}
 use native.Mathlib.Omega.{arith}
 use lib.ListN.{length, take, drop, set, replicate}
-use Rattle.leaf.specs.Faults.{Answer, Fills, Refused, found, in-leaf, next, refused, shown}
+use Rattle.leaf.specs.Faults.{Answer, Fills, Refused, found, at-byte, next, refused, shown}
 use Rattle.leaf.specs.Numbers.{numberAt}
 use Rattle.leaf.specs.declared.fault.Fault.{Fault}
 use Rattle.std.specs.declared.result.Result.the-variants.{Ok, Err}
@@ -48,7 +48,7 @@ spare i items f z h =
 
 pub list-is : (s : List ℕ) (at n e : ℕ) → found n e ≡ numberAt s at → n ≤ 6 → listAt s at ≡ fractionsAt n s e
 unfolding listAt
-list-is s at n e q h = ap (λ a. next a (λ m z. cond (ltb 6 m) (refused (in-leaf 6 at)) (fractionsAt m s z))) (sym q) ∙ ap (λ t. cond t (refused (in-leaf 6 at)) (fractionsAt n s e)) (le-ltb 6 n h)
+list-is s at n e q h = ap (λ a. next a (λ m z. cond (ltb 6 m) (refused (at-byte 6 at)) (fractionsAt m s z))) (sym q) ∙ ap (λ t. cond t (refused (at-byte 6 at)) (fractionsAt n s e)) (le-ltb 6 n h)
 
 pub full : (n : ℕ) (items : List Fraction) → n ≤ 6 → length items ≡ 6 → drop n items ≡ replicate (6 - n) none → _≡_ {A = WrittenList} (record { items = items; count = n }) (placesOf (take n items))
 full n items h l d =
@@ -76,12 +76,12 @@ spoiled s start n first at i items old f q h l e z =
 pub no-count : (s : List ℕ) (start : ℕ) (old : WrittenList) (f : Fault) → refused (shown f) ≡ numberAt s start → Fills (placed (listAt s start)) old old (Err f)
 unfolding listAt
 no-count s start old f q =
-    let r : listAt s start ≡ refused (shown f) = ap (λ a. next a (λ m z. cond (ltb 6 m) (refused (in-leaf 6 start)) (fractionsAt m s z))) (sym q) in
+    let r : listAt s start ≡ refused (shown f) = ap (λ a. next a (λ m z. cond (ltb 6 m) (refused (at-byte 6 start)) (fractionsAt m s z))) (sym q) in
     rw r (refl, refl)
 
-pub too-many : (s : List ℕ) (start n e : ℕ) (old : WrittenList) (f : Fault) → found n e ≡ numberAt s start → 6 < n → shown f ≡ in-leaf 6 start → Fills (placed (listAt s start)) old old (Err f)
+pub too-many : (s : List ℕ) (start n e : ℕ) (old : WrittenList) (f : Fault) → found n e ≡ numberAt s start → 6 < n → shown f ≡ at-byte 6 start → Fills (placed (listAt s start)) old old (Err f)
 unfolding listAt
 too-many s start n e old f q h k =
-    let r : listAt s start ≡ refused (in-leaf 6 start) =
-    ap (λ a. next a (λ m z. cond (ltb 6 m) (refused (in-leaf 6 start)) (fractionsAt m s z))) (sym q) ∙ ap (λ t. cond t (refused (in-leaf 6 start)) (fractionsAt n s e)) (lt-ltb 6 n h) in
+    let r : listAt s start ≡ refused (at-byte 6 start) =
+    ap (λ a. next a (λ m z. cond (ltb 6 m) (refused (at-byte 6 start)) (fractionsAt m s z))) (sym q) ∙ ap (λ t. cond t (refused (at-byte 6 start)) (fractionsAt n s e)) (lt-ltb 6 n h) in
     rw r (k, refl)

@@ -22,7 +22,7 @@ use Rattle.divisors.proofs.Fills.{all-in-range}
 use Rattle.divisors.proofs.Folds.{fold-is}
 use Rattle.divisors.proofs.Kept.{barred-thinned, positive, required-settled}
 use Rattle.divisors.proofs.Makes.{fold-of, thin-of}
-use Rattle.leaf.specs.Faults.{Answer, Refused, found, refused, in-leaf, next}
+use Rattle.leaf.specs.Faults.{Answer, Refused, found, refused, at-byte, next}
 use Rattle.leaf.specs.Kind.{Lawful, WellRead, is-bound, is-window}
 use Rattle.leaf.proofs.Chains.{next-both}
 use Rattle.amounts.specs.declared.amount_leaf.AmountLeaf.{AmountLeaf}
@@ -69,7 +69,7 @@ well-read s i =
     next-both (writtenAt s i) _ (WellRead amounts s i) (λ _. tt) (λ w e p.
     let h = written-sound s i w e p in
     let a = leafOf (w .low) (w .high) (w .required) (w .barred) in
-    cond-both (isWindow (w .low) (w .high)) (found a e) (refused (in-leaf 8 i)) (WellRead amounts s i)
+    cond-both (isWindow (w .low) (w .high)) (found a e) (refused (at-byte 8 i)) (WellRead amounts s i)
     (λ t. (leaf-lawful (w .low) (w .high) (w .required) (w .barred) (windowed s i w e h t) (h .required) (h .few-required) (h .barred) (h .few-barred), h .past, h .within))
     (λ _. tt))
 
@@ -93,11 +93,11 @@ read-means s i a e = go (writtenAt s i) refl
 
     go :
         (o : Answer Written) → writtenAt s i ≡ o →
-        next o (λ w end. cond (isWindow (w .low) (w .high)) (found (leafOf (w .low) (w .high) (w .required) (w .barred)) end) (refused (in-leaf 8 i))) ≡ found a e → Says s i a e
+        next o (λ w end. cond (isWindow (w .low) (w .high)) (found (leafOf (w .low) (w .high) (w .required) (w .barred)) end) (refused (at-byte 8 i))) ≡ found a e → Says s i a e
     go (refused f) p = λ q. no f refl q
     go (found w g) p =
-        cond-both (isWindow (w .low) (w .high)) (found (leafOf (w .low) (w .high) (w .required) (w .barred)) g) (refused (in-leaf 8 i)) (λ r. r ≡ found a e → Says s i a e)
-        (λ _ q. said w g p q) (λ _ q. no (in-leaf 8 i) refl q)
+        cond-both (isWindow (w .low) (w .high)) (found (leafOf (w .low) (w .high) (w .required) (w .barred)) g) (refused (at-byte 8 i)) (λ r. r ≡ found a e → Says s i a e)
+        (λ _ q. said w g p q) (λ _ q. no (at-byte 8 i) refl q)
 
 take-front : (xs ys : List Fraction) → take (length xs) (xs ++ ys) ≡ xs
 take-front [] ys = refl
@@ -135,7 +135,7 @@ pub leaf-read :
     (s : List ℕ) (i m e : ℕ) (low high : Option ℤ) (ws us : List Fraction) → found (low, high) m ≡ headAt s i → listsAt s m ≡ found (ws, us) e → isWindow low high ≡ true →
     leafAt s i ≡ found (leafOf low high ws us) e
 leaf-read s i m e low high ws us p q t =
-    let ends : Answer Written → Answer AmountLeaf = λ o. next o (λ w end. cond (isWindow (w .low) (w .high)) (found (leafOf (w .low) (w .high) (w .required) (w .barred)) end) (refused (in-leaf 8 i))) in
+    let ends : Answer Written → Answer AmountLeaf = λ o. next o (λ w end. cond (isWindow (w .low) (w .high)) (found (leafOf (w .low) (w .high) (w .required) (w .barred)) end) (refused (at-byte 8 i))) in
     sym (ap (λ (a : Answer (Option ℤ × Option ℤ)). ends (next a (λ w n. next (listsAt s n) (λ l end. found (record { low = w .0; high = w .1; required = l .0; barred = l .1 }) end)))) p) ∙
     (ap (λ (a : Answer (List Fraction × List Fraction)). ends (next a (λ l end. found (record { low = low; high = high; required = l .0; barred = l .1 }) end))) q ∙
-    cond-true (isWindow low high) (found (leafOf low high ws us) e) (refused (in-leaf 8 i)) t)
+    cond-true (isWindow low high) (found (leafOf low high ws us) e) (refused (at-byte 8 i)) t)

@@ -14,7 +14,7 @@ use Rattle.std.specs.declared.result.Result.the-variants.{Ok, Err}
 use Rattle.divisors.specs.declared.fraction.Fraction.{Fraction}
 use Rattle.divisors.specs.Fractions.{none}
 use Rattle.leaf.specs.declared.fault.Fault.{Fault}
-use Rattle.leaf.specs.Faults.{Answer, found, refused, next, at-byte, in-leaf, shown}
+use Rattle.leaf.specs.Faults.{Answer, found, refused, next, at-byte, shown}
 use Rattle.leaf.specs.Numbers.{hasBit, numberAt}
 use Rattle.amounts.specs.declared.amount_leaf.AmountLeaf.{AmountLeaf}
 use Rattle.amounts.specs.declared.reader.WrittenList.{WrittenList}
@@ -30,7 +30,7 @@ flagsAt end at [] = refused (at-byte 2 end)
 flagsAt end at (b ∷ bs) = cond (areFlags b) (found b (at + 1)) (refused (at-byte 4 at))
 
 abbrev pub amountAt : ℕ → ℕ → Option ℤ → Answer (Option ℤ)
-amountAt at e None = refused (in-leaf 7 at)
+amountAt at e None = refused (at-byte 7 at)
 amountAt at e (Some z) = found (Some z) e
 
 -- a bound that is present is a magnitude under its sign
@@ -44,7 +44,7 @@ boundsAt f s at = next (boundAt (hasBit f 0) (hasBit f 2) s at) (λ low e. next 
 
 -- a numerator or a denominator: 1 to 2^63 - 1
 abbrev pub partAt : List ℕ → ℕ → Answer ℕ
-partAt s at = next (numberAt s at) (λ n e. cond (ltb 0 n && ltb n (2 ^ 63)) (found n e) (refused (in-leaf 5 at)))
+partAt s at = next (numberAt s at) (λ n e. cond (ltb 0 n && ltb n (2 ^ 63)) (found n e) (refused (at-byte 5 at)))
 
 abbrev pub fractionAt : List ℕ → ℕ → Answer Fraction
 fractionAt s at = next (partAt s at) (λ p m. next (partAt s m) (λ q e. found (record { p = p; q = q }) e))
@@ -56,7 +56,7 @@ fractionsAt (suc k) s at = next (fractionAt s at) (λ f e. next (fractionsAt k s
 
 -- a count of at most six, and as many divisors
 unfoldable pub listAt : List ℕ → ℕ → Answer (List Fraction)
-listAt s at = next (numberAt s at) (λ n e. cond (ltb 6 n) (refused (in-leaf 6 at)) (fractionsAt n s e))
+listAt s at = next (numberAt s at) (λ n e. cond (ltb 6 n) (refused (at-byte 6 at)) (fractionsAt n s e))
 
 -- a leaf as written
 pub record Written : Type 0 where
@@ -78,7 +78,7 @@ writtenAt s at = next (headAt s at) (λ w e. next (listsAt s e) (λ p end. found
 
 -- the window is judged after the leaf's last byte, at the flags
 abbrev pub leafAt : List ℕ → ℕ → Answer AmountLeaf
-leafAt s at = next (writtenAt s at) (λ w end. cond (isWindow (w .low) (w .high)) (found (leafOf (w .low) (w .high) (w .required) (w .barred)) end) (refused (in-leaf 8 at)))
+leafAt s at = next (writtenAt s at) (λ w end. cond (isWindow (w .low) (w .high)) (found (leafOf (w .low) (w .high) (w .required) (w .barred)) end) (refused (at-byte 8 at)))
 
 -- the places of a list that was read
 abbrev pub placesOf : List Fraction → WrittenList

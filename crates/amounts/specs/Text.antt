@@ -13,7 +13,7 @@ use Rattle.std.specs.declared.result.Result.{Result}
 use Rattle.std.specs.declared.result.Result.the-variants.{Ok, Err}
 use Rattle.divisors.specs.declared.fraction.Fraction.{Fraction}
 use Rattle.leaf.specs.declared.fault.Fault.{Fault}
-use Rattle.leaf.specs.Faults.{Refused, no-room, told}
+use Rattle.leaf.specs.Faults.{Refused, unplaced, told}
 use Rattle.amounts.specs.declared.amount_leaf.AmountLeaf.{AmountLeaf}
 use Rattle.amounts.specs.Leaves.{barred, required}
 
@@ -51,5 +51,5 @@ pub record Wrote (old : List ℕ) (at : ℕ) (t new : List ℕ) (r : ℕ) : Type
 
 -- a buffer under 600 bytes is refused, and nothing is written; in any other the text stands at the front, its length is answered, and the rest stays
 pub record Texted (t old new : List ℕ) (r : Result ℕ Fault) : Type 0 where
-  pub short : length old < 600 → (_≡_ {A = Result ℕ Refused} (told r) (Err no-room)) × (new ≡ old)
+  pub short : length old < 600 → (_≡_ {A = Result ℕ Refused} (told r) (Err (unplaced 11))) × (new ≡ old)
   pub long : 600 ≤ length old → (r ≡ Ok (length t)) × (new ≡ t ++ drop (length t) old)

@@ -9,7 +9,7 @@ use Rattle.std.specs.declared.option.Option.the-variants.{Some, None}
 use Rattle.std.specs.declared.result.Result.the-variants.{Ok, Err}
 use Rattle.divisors.specs.declared.fraction.Fraction.{Fraction}
 use Rattle.divisors.specs.Laws.{over}
-use Rattle.leaf.specs.Faults.{refused, at-byte, in-leaf, unplaced}
+use Rattle.leaf.specs.Faults.{refused, at-byte, unplaced}
 use Rattle.amounts.specs.declared.amount.WrittenAmount.{WrittenAmount}
 use Rattle.amounts.specs.declared.amount_leaf.AmountLeaf.{AmountLeaf}
 use Rattle.amounts.specs.Amounts.{amounts}
@@ -38,4 +38,4 @@ pub record WorkedLeaves : Type 0 where
   -- sheets of amounts, whose first leaf starts at byte 1: 41 02, 41 02 84 00, 41 03 05 04 00 00
   pub ends-early : leafAt (65 ∷ 2 ∷ []) 1 ≡ refused (at-byte 2 2)
   pub not-shortest : leafAt (65 ∷ 2 ∷ 132 ∷ 0 ∷ []) 1 ≡ refused (at-byte 3 2)
-  pub minimum-above : leafAt (65 ∷ 3 ∷ 5 ∷ 4 ∷ 0 ∷ 0 ∷ []) 1 ≡ refused (in-leaf 8 1)
+  pub minimum-above : leafAt (65 ∷ 3 ∷ 5 ∷ 4 ∷ 0 ∷ 0 ∷ []) 1 ≡ refused (at-byte 8 1)

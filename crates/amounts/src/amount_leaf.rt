@@ -48,7 +48,7 @@ fn bound_of(written: Option<WrittenAmount>) -> Result<Option<i64>, Fault>
         return Ok(None);
     };
     match amount(w.negative, w.magnitude) {
-        None => Err(Fault::of_maker(Refusal::OutOfRange)),
+        None => Err(Fault::unplaced(Refusal::OutOfRange)),
         Some(z) => Ok(Some(z)),
     }
 }
@@ -59,8 +59,8 @@ fn check_divisors(required: &[Fraction], barred: &[Fraction]) -> Result<(), Faul
 {
     match check(required, barred) {
         Ok(()) => Ok(()),
-        Err(divisors::Refusal::OutOfRange) => Err(Fault::of_maker(Refusal::BadPart)),
-        Err(divisors::Refusal::TooMany) => Err(Fault::of_maker(Refusal::ManyDivisors)),
+        Err(divisors::Refusal::OutOfRange) => Err(Fault::unplaced(Refusal::BadPart)),
+        Err(divisors::Refusal::TooMany) => Err(Fault::unplaced(Refusal::ManyDivisors)),
     }
 }
 
@@ -97,7 +97,7 @@ fn window_of(
     let low = bound_of(minimum)?;
     let high = bound_of(maximum)?;
     if !is_window(low, high) {
-        return Err(Fault::of_maker(Refusal::MinAboveMax));
+        return Err(Fault::unplaced(Refusal::MinAboveMax));
     }
     Ok(Bounds {
         minimum: low,

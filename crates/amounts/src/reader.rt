@@ -77,10 +77,10 @@ fn flags_at(sheet: &[u8], start: usize) -> Result<(u8, usize), Fault>
     ensures { λ r. ⌜ seen r ≡ flagsAt (length (now (sheet .entry))) start (drop start (now (sheet .entry))) ⌝ }
 {
     let [flags, ..] = rest_of(sheet, start) else {
-        return Err(Fault::in_bytes(Refusal::EndsEarly, sheet.len()));
+        return Err(Fault::at(Refusal::EndsEarly, sheet.len()));
     };
     if !are_flags(*flags) {
-        return Err(Fault::in_bytes(Refusal::UnknownByte, start));
+        return Err(Fault::at(Refusal::UnknownByte, start));
     }
     Ok((*flags, start + 1))
 }
@@ -99,7 +99,7 @@ fn bound_at(
     }
     let (magnitude, end) = number(sheet, start)?;
     match amount(negative, magnitude) {
-        None => Err(Fault::in_leaf(Refusal::OutOfRange, start)),
+        None => Err(Fault::at(Refusal::OutOfRange, start)),
         Some(z) => Ok((Some(z), end)),
     }
 }
@@ -123,10 +123,10 @@ fn part_at(sheet: &[u8], start: usize) -> Result<(u64, usize), Fault>
 {
     let (n, end) = number(sheet, start)?;
     if n == 0 {
-        return Err(Fault::in_leaf(Refusal::BadPart, start));
+        return Err(Fault::at(Refusal::BadPart, start));
     }
     if n > LARGEST {
-        return Err(Fault::in_leaf(Refusal::BadPart, start));
+        return Err(Fault::at(Refusal::BadPart, start));
     }
     Ok((n, end))
 }
@@ -145,7 +145,7 @@ fn list_at(sheet: &[u8], start: usize, into: &mut WrittenList) -> Result<usize, 
 {
     let (count, first) = number(sheet, start)?;
     if count > 6 {
-        return Err(Fault::in_leaf(Refusal::ManyDivisors, start));
+        return Err(Fault::at(Refusal::ManyDivisors, start));
     }
     let mut items = [NONE; 6];
     let mut at = first;
@@ -191,7 +191,7 @@ fn fill_leaf(sheet: &[u8], start: usize, place: &mut AmountLeaf) -> Result<usize
     let ((low, high), at_lists) = head_at(sheet, start)?;
     let end = lists_at(sheet, at_lists, &mut required, &mut barred)?;
     if !is_window(low, high) {
-        return Err(Fault::in_leaf(Refusal::MinAboveMax, start));
+        return Err(Fault::at(Refusal::MinAboveMax, start));
     }
     let bounds = Bounds {
         minimum: low,

@@ -6,6 +6,7 @@ ghost use mathlib.Core.List.{[], _∷_, _++_};
 use crate::amount_leaf::AmountLeaf;
 use divisors::Fraction;
 use leaf::Fault;
+use leaf::Refusal;
 
 // The shortest buffer for a line.
 const ROOM: usize = 600;
@@ -109,7 +110,7 @@ impl AmountLeaf {
         ensures { λ r. ⌜ Texted (lineText (now (self .entry))) (now (buf .entry)) (now (buf .exit)) r ⌝ }
     {
         if buf.len() < ROOM {
-            return Err(Fault::of_text());
+            return Err(Fault::unplaced(Refusal::ShortBuffer));
         }
         Ok(put_line(
             buf,

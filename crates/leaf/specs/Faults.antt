@@ -1,6 +1,8 @@
 -- Refusals: the number of each in the table of refusals, the byte that it names, the layer that refused.
 use mathlib.Core.Path.{_≡_}
+use mathlib.Core.Bool.{cond}
 use Prim.Native.Nat.{ℕ}
+use lib.Dec.{eqb, ltb}
 use Rattle.std.specs.declared.option.Option.{Option}
 use Rattle.std.specs.declared.option.Option.the-variants.{Some, None}
 use Rattle.std.specs.declared.result.Result.{Result}
@@ -14,7 +16,7 @@ use Rattle.leaf.specs.declared.fault.Fault.{Fault}
 pub record Refused : Type 0 where
   pub number : ℕ
   pub byte : Option ℕ
-  pub layer : ℕ
+  pub layer : Layer
 
 -- what a reader answers: what it read and where that ends, or a refusal
 pub data Answer (A : Type 0) : Type 0 where
@@ -34,15 +36,13 @@ numberOf BadWeekdays = 9
 numberOf TableFull = 10
 numberOf ShortBuffer = 11
 
--- bytes 1, leaf 2, list 3, neither 0
-abbrev pub layerOf : Layer → ℕ
-layerOf Bytes = 1
-layerOf Leaf = 2
-layerOf ListLayer = 3
-layerOf Neither = 0
+-- the layer that refuses with a number: the bytes with 1 to 4, the leaf with 5 to 9, the list with 10, none with 11
+abbrev pub layerOf : ℕ → Layer
+layerOf n = cond (ltb n 5) Bytes (cond (ltb n 10) Leaf (cond (eqb n 10) ListLayer Neither))
 
+-- what a fault shows
 abbrev pub shown : Fault → Refused
-shown f = record { number = numberOf (f .refusal); byte = f .byte; layer = layerOf (f .layer) }
+shown f = record { number = numberOf (f .refusal); byte = f .byte; layer = f .layer }
 
 -- what was read fills the place lent, and a refusal leaves it as it was
 abbrev pub Fills : {A : Type 0} → Answer A → A → A → Result ℕ Fault → Type 0
@@ -70,16 +70,9 @@ abbrev pub then : {A B : Type 0} → Result A Refused → (A → Result B Refuse
 then (Ok x) f = f x
 then (Err r) f = Err r
 
--- what a reader and a maker refuse with: layers bytes and leaf
+-- the refusal with a number: at a byte, or naming none
 abbrev pub at-byte : ℕ → ℕ → Refused
-at-byte n b = record { number = n; byte = Some b; layer = 1 }
-
-abbrev pub in-leaf : ℕ → ℕ → Refused
-in-leaf n b = record { number = n; byte = Some b; layer = 2 }
+at-byte n b = record { number = n; byte = Some b; layer = layerOf n }
 
 abbrev pub unplaced : ℕ → Refused
-unplaced n = record { number = n; byte = None; layer = 2 }
-
--- a text buffer that is too short: no byte, no layer
-abbrev pub no-room : Refused
-no-room = record { number = 11; byte = None; layer = 0 }
+unplaced n = record { number = n; byte = None; layer = layerOf n }

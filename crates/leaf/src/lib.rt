@@ -4,7 +4,6 @@ mod fault;
 mod kind;
 mod numbers;
 mod sheet;
-mod unplaced;
 
 pub use bounds::Bounds;
 pub use bounds::contains;

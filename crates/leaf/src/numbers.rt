@@ -38,12 +38,12 @@ fn groups(rest: &[u8], left: u32, start: usize, end: usize) -> Result<(u64, usiz
     ensures reads { λ r. ⌜ moved start (seen r) ≡ judged end start (groupsOf left (now (rest .entry))) ⌝ }
 {
     let [first, tail @ ..] = rest else {
-        return Err(Fault::in_bytes(Refusal::EndsEarly, end));
+        return Err(Fault::at(Refusal::EndsEarly, end));
     };
     if *first < 0x80 {
         return Ok((u64::from(*first), 1));
     }
-    let bad = Fault::in_bytes(Refusal::BadNumber, start);
+    let bad = Fault::at(Refusal::BadNumber, start);
     if left == 1 {
         return Err(bad);
     }

@@ -9,7 +9,7 @@ use lib.ListN.{length}
 use Rattle.std.specs.declared.option.Option.{Option}
 use Rattle.std.specs.declared.option.Option.the-variants.{Some, None}
 use Rattle.std.proofs.shelf.Tests.{and-from, cond-both, le-leb, leb-false, leb-true, lt-leb, ltb-false, ltb-true}
-use Rattle.leaf.specs.Faults.{Answer, found, refused, in-leaf}
+use Rattle.leaf.specs.Faults.{Answer, found, refused, at-byte}
 use Rattle.leaf.specs.Kind.{Laws, WellRead, is-window, ext-le, from, upto}
 use Rattle.leaf.specs.Numbers.{numberAt}
 use Rattle.leaf.proofs.Chains.{ends-found, next-both, number-ends}
@@ -49,7 +49,7 @@ day-read : (s : List ℕ) (i : ℕ) → Day s i (dayAt s i)
 day-read s i =
     next-both (numberAt s i) _ (Day s i) (λ _. tt) (λ n e p.
     let a = ends-found s i (numberAt s i) n e (number-ends s i) p in
-    cond-both (isDay n) (found n e) (refused (in-leaf 7 i)) (Day s i) (λ t. (t, a .0, a .1)) (λ _. tt))
+    cond-both (isDay n) (found n e) (refused (at-byte 7 i)) (Day s i) (λ t. (t, a .0, a .1)) (λ _. tt))
 
 day-found : (s : List ℕ) (i n e : ℕ) → dayAt s i ≡ found n e → (isDay n ≡ true) × (i < e) × (e ≤ length s)
 day-found s i n e p = go (dayAt s i) p (day-read s i)
@@ -63,7 +63,7 @@ span-read s i =
     next-both (dayAt s m) _ (WellRead spans s i) (λ _. tt) (λ high e q.
     let a = day-found s i low m p in
     let b = day-found s m high e q in
-    cond-both (leb low high) (found (window (Some low) (Some high)) e) (refused (in-leaf 8 i)) (WellRead spans s i)
+    cond-both (leb low high) (found (window (Some low) (Some high)) e) (refused (at-byte 8 i)) (WellRead spans s i)
     (λ t. (and-from (isDay low) (isDay high && leb low high) (a .0) (and-from (isDay high) (leb low high) (b .0) t), omega arith, b .2)) (λ _. tt)))
 
 pub spans-laws : Laws spans

@@ -9,7 +9,7 @@ use lib.Dec.{eqb, leb, ltb}
 use Rattle.std.specs.declared.option.Option.{Option}
 use Rattle.std.specs.declared.option.Option.the-variants.{Some, None}
 use Rattle.std.proofs.shelf.Tests.{and-from, and-parts, both-ways, cases-bool, cond-both, eq-eqb, eqb-true, le-leb, leb-false, leb-true, true≢false, false≢true}
-use Rattle.leaf.specs.Faults.{found, refused, in-leaf}
+use Rattle.leaf.specs.Faults.{found, refused, at-byte}
 use Rattle.leaf.specs.Kind.{Kind, Laws, Lawful, WellRead, ext-le, from, same-rule}
 use Rattle.leaf.specs.Numbers.{numberAt}
 use Rattle.leaf.proofs.Chains.{Ends, ends-found, next-both, number-ends}
@@ -186,8 +186,8 @@ module _ {L : Type 0} (k : Kind ℕ L) (laws : Laws k) where
   closing-ends s i =
       next-both (numberAt s i) _ (Ends s i) (λ _. tt) (λ n e p.
       let a = ends-found s i (numberAt s i) n e (number-ends s i) p in
-      cond-both (eqb n 0) (found (record { day = None }) e) (cond (ltb (n - 1) (2 ^ 32)) (found (record { day = Some (n - 1) }) e) (refused (in-leaf 7 i))) (Ends {A = Closing} s i) (λ _. a)
-      (λ _. cond-both (ltb (n - 1) (2 ^ 32)) (found (record { day = Some (n - 1) }) e) (refused (in-leaf 7 i)) (Ends {A = Closing} s i) (λ _. a) (λ _. tt)))
+      cond-both (eqb n 0) (found (record { day = None }) e) (cond (ltb (n - 1) (2 ^ 32)) (found (record { day = Some (n - 1) }) e) (refused (at-byte 7 i))) (Ends {A = Closing} s i) (λ _. a)
+      (λ _. cond-both (ltb (n - 1) (2 ^ 32)) (found (record { day = Some (n - 1) }) e) (refused (at-byte 7 i)) (Ends {A = Closing} s i) (λ _. a) (λ _. tt)))
 
   well-read : (s : List ℕ) (i : ℕ) → WellRead (closed k) s i (closed k .reading s i)
   well-read s i =

@@ -5,7 +5,7 @@ use Prim.Native.Nat.{ℕ, _-_, _^_}
 use lib.Dec.{eqb, leb, ltb}
 use Rattle.std.specs.declared.option.Option.{Option}
 use Rattle.std.specs.declared.option.Option.the-variants.{Some, None}
-use Rattle.leaf.specs.Faults.{Answer, found, refused, in-leaf, next}
+use Rattle.leaf.specs.Faults.{Answer, found, refused, at-byte, next}
 use Rattle.leaf.specs.Kind.{Kind, ext-le, from}
 use Rattle.leaf.specs.Numbers.{numberAt}
 use Rattle.spans.specs.declared.closed.Closing.{Closing}
@@ -27,7 +27,7 @@ pairLe r r′ s = cond r (cond r′ s true) false
 -- 0 for none, else the day and one more
 abbrev pub closingAt : List ℕ → ℕ → Answer Closing
 closingAt s at = next (numberAt s at) (λ n e.
-    cond (eqb n 0) (found (record { day = None }) e) (cond (ltb (n - 1) (2 ^ 32)) (found (record { day = Some (n - 1) }) e) (refused (in-leaf 7 at))))
+    cond (eqb n 0) (found (record { day = None }) e) (cond (ltb (n - 1) (2 ^ 32)) (found (record { day = Some (n - 1) }) e) (refused (at-byte 7 at))))
 
 -- the next day below, or the one after it where that is the day left out
 abbrev pub openNext : (ℕ → Option ℕ) → Option ℕ → Option ℕ → Option ℕ

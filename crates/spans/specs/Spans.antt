@@ -5,7 +5,7 @@ use Prim.Native.Nat.{ℕ, _+_, _^_}
 use lib.Dec.{eqb, leb, ltb}
 use Rattle.std.specs.declared.option.Option.{Option}
 use Rattle.std.specs.declared.option.Option.the-variants.{Some, None}
-use Rattle.leaf.specs.Faults.{Answer, found, refused, in-leaf, next}
+use Rattle.leaf.specs.Faults.{Answer, found, refused, at-byte, next}
 use Rattle.leaf.specs.Kind.{Kind, ext-le, from, upto}
 use Rattle.leaf.specs.Numbers.{numberAt}
 use Rattle.spans.specs.declared.span.Span.{Span}
@@ -21,14 +21,14 @@ abbrev pub following : ℕ → Option ℕ
 following v = cond (isDay (v + 1)) (Some (v + 1)) None
 
 abbrev pub dayAt : List ℕ → ℕ → Answer ℕ
-dayAt s at = next (numberAt s at) (λ n e. cond (isDay n) (found n e) (refused (in-leaf 7 at)))
+dayAt s at = next (numberAt s at) (λ n e. cond (isDay n) (found n e) (refused (at-byte 7 at)))
 
 abbrev pub window : Option ℕ → Option ℕ → Span
 window x y = record { bounds = record { minimum = x; maximum = y } }
 
 -- the minimum, then the maximum, which are judged last
 abbrev pub spanAt : List ℕ → ℕ → Answer Span
-spanAt s at = next (dayAt s at) (λ low m. next (dayAt s m) (λ high e. cond (leb low high) (found (window (Some low) (Some high)) e) (refused (in-leaf 8 at))))
+spanAt s at = next (dayAt s at) (λ low m. next (dayAt s m) (λ high e. cond (leb low high) (found (window (Some low) (Some high)) e) (refused (at-byte 8 at))))
 
 abbrev pub spans : Kind ℕ Span
 spans = record {

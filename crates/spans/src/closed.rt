@@ -65,7 +65,7 @@ fn closing_at(sheet: &[u8], start: usize) -> Result<(Closing, usize), Fault>
     }
     let day = n - 1;
     if day >> 32 != 0 {
-        return Err(Fault::in_leaf(Refusal::OutOfRange, start));
+        return Err(Fault::at(Refusal::OutOfRange, start));
     }
     let closing = Closing {
         day: Some(day as u32),

@@ -22,7 +22,7 @@ fn day_at(sheet: &[u8], start: usize) -> Result<(u32, usize), Fault>
 {
     let (n, end) = number(sheet, start)?;
     if n >> 32 != 0 {
-        return Err(Fault::in_leaf(Refusal::OutOfRange, start));
+        return Err(Fault::at(Refusal::OutOfRange, start));
     }
     Ok((n as u32, end))
 }
@@ -86,7 +86,7 @@ pub impl Leaf<u32> for Span as Spans {
         let (low, middle) = day_at(sheet, start)?;
         let (high, end) = day_at(sheet, middle)?;
         if low > high {
-            return Err(Fault::in_leaf(Refusal::MinAboveMax, start));
+            return Err(Fault::at(Refusal::MinAboveMax, start));
         }
         let bounds = Bounds {
             minimum: Some(low),

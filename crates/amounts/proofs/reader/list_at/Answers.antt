@@ -26,4 +26,4 @@ returns-in-Break-count c =
     rw (q .1, q .2) (no-count _ _ _ _ (c .in-Break-count .ensures tt .reads))
 
 pub returns-then-count-gt6 : need.returns-then-count-gt6
-returns-then-count-gt6 c = too-many _ _ _ _ _ _ (c .in-Continue-count .ensures tt .reads) (omega arith) (c .in-leaf .ensures)
+returns-then-count-gt6 c = too-many _ _ _ _ _ _ (c .in-Continue-count .ensures tt .reads) (omega arith) (c .at .ensures)

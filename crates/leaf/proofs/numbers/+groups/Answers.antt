@@ -14,7 +14,7 @@ use Rattle.leaf.proofs.numbers.+groups.Needs.{then-high-eq0·by·then-high-eq0
 
 pub returns-in-rest : need.returns-in-rest
 returns-in-rest t c =
-    record { within = tt; reads = ap refused (c .in-bytes .ensures) ∙ sym (ap (judged (c .args .end) (c .args .start)) (step-none (c .args .left) (c .args .rest .now) (c .pre) (omega (arith, ltb-true)))) }
+    record { within = tt; reads = ap refused (c .at .ensures) ∙ sym (ap (judged (c .args .end) (c .args .start)) (step-none (c .args .left) (c .args .rest .now) (c .pre) (omega (arith, ltb-true)))) }
 
 pub returns-then-first-lt128 : need.returns-then-first-lt128
 returns-then-first-lt128 t c =
@@ -29,7 +29,7 @@ returns-in-Break-high t c =
 
 pub returns-then-high-eq0 : need.returns-then-high-eq0
 returns-then-high-eq0 t c =
-    record { within = tt; reads = ap refused (c .in-bytes-bad .ensures) ∙ onward _ _ _ _ (c .pre) (omega (arith, ltb-false)) (omega arith) _ _ (c .in-Continue-high .ensures tt .reads) (λ g k e. spoils _ _ _ _ _ g k e (elim (c .then-high-eq0 .came) [ then-high-eq0·by·then-high-eq0 w ↦ inl (omega arith) | then-high-eq0·by·else-high-eq0·then-high-ne0 w ↦ inr (omega arith) ])) }
+    record { within = tt; reads = ap refused (c .at-bad .ensures) ∙ onward _ _ _ _ (c .pre) (omega (arith, ltb-false)) (omega arith) _ _ (c .in-Continue-high .ensures tt .reads) (λ g k e. spoils _ _ _ _ _ g k e (elim (c .then-high-eq0 .came) [ then-high-eq0·by·then-high-eq0 w ↦ inl (omega arith) | then-high-eq0·by·else-high-eq0·then-high-ne0 w ↦ inr (omega arith) ])) }
 
 pub returns : need.returns
 returns t c =
