@@ -4,13 +4,10 @@ use mathlib.Core.Bool.{true, false}
 use mathlib.Core.List.{[], _∷_}
 use Prim.Native.Nat.{ℕ, _^_, _-_}
 use lib.IntN.{ℤ, pos, negℤ}
-use Rattle.std.specs.declared.option.Option.{Option}
 use Rattle.std.specs.declared.option.Option.the-variants.{Some, None}
 use Rattle.std.specs.declared.result.Result.the-variants.{Ok, Err}
-use Rattle.divisors.specs.declared.fraction.Fraction.{Fraction}
 use Rattle.divisors.specs.Laws.{over}
 use Rattle.leaf.specs.Faults.{refused, at-byte, unplaced}
-use Rattle.amounts.specs.declared.amount.WrittenAmount.{WrittenAmount}
 use Rattle.amounts.specs.declared.amount_leaf.AmountLeaf.{AmountLeaf}
 use Rattle.amounts.specs.Amounts.{amounts}
 use Rattle.amounts.specs.Leaves.{leafOf}

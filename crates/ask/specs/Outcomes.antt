@@ -11,9 +11,7 @@ use Rattle.std.specs.declared.option.Option.the-variants.{Some, None}
 use Rattle.std.specs.declared.result.Result.{Result}
 use Rattle.std.specs.declared.result.Result.the-variants.{Ok, Err}
 use Rattle.divisors.specs.declared.fraction.Fraction.{Fraction}
-use Rattle.notation.specs.declared.SignedNumber.{SignedNumber}
 use Rattle.notation.specs.Text.{divisorsOf, indexOf, signedOf}
-use Rattle.leaf.specs.declared.fault.Fault.{Fault}
 use Rattle.leaf.specs.Faults.{Refused, numberOf}
 use Rattle.leaf.specs.Kind.{admits}
 use Rattle.amounts.specs.declared.amount.WrittenAmount.{WrittenAmount}

@@ -78,21 +78,6 @@ pub record MovedDown (old now : List Fraction) (k n : ℕ) : Type 0 where
 pub down-none : (xs : List Fraction) (n : ℕ) → MovedDown xs xs n n
 down-none xs n = record { size = refl; front = λ j h. refl; moved = λ j h g. absurd (omega arith) }
 
-pub down-more :
-    (old now : List Fraction) (k n : ℕ) → k < n → n < length old → MovedDown old now (k + 1) n → MovedDown old (set now (k + 1) (getD now k none)) k n
-down-more old now k n h l m =
-    record {
-      size = length-set now (k + 1) (getD now k none) ∙ m .size;
-      front = λ j a. getD-set-other now (k + 1) j (getD now k none) none (omega arith) ∙ m .front j (omega arith);
-      moved =
-          λ j a b.
-          ⊎-elim
-          (λ e.
-          ap (λ (i : ℕ). getD (set now (k + 1) (getD now k none)) (i + 1) none) e ∙
-          getD-set-same now (k + 1) (getD now k none) none (omega (arith, m .size)) ∙ m .front k (omega arith) ∙ ap (λ (i : ℕ). getD old i none) (sym e))
-          (λ ne. getD-set-other now (k + 1) (j + 1) (getD now k none) none (omega arith) ∙ m .moved j (omega arith) b) (cases-eq j k);
-    }
-
 pub down-all :
     (old now : List Fraction) (at n : ℕ) (f : Fraction) → at ≤ n → n < length old → MovedDown old now at n →
     take (n + 1) (set now at f) ≡ inserted (take n old) at f
