@@ -33,9 +33,6 @@ grid-again set u x h l e =
 pub passed : (set n k : ℕ) → onGrid set (n + 1) ≡ false → firstAfter set n (suc k) ≡ firstAfter set (n + 1) k
 passed set n k h = cond-false _ _ _ h
 
-pub hit : (set n k : ℕ) → onGrid set (n + 1) ≡ true → firstAfter set n (suc k) ≡ Some (n + 1)
-hit set n k h = cond-true _ _ _ h
-
 pub first-grid : (set n k w : ℕ) → firstAfter set n k ≡ Some w → (onGrid set w ≡ true) × (n < w)
 first-grid set n zero w = λ e. absurd (absent w e)
 first-grid set n (suc k) w = cond-both (onGrid set (n + 1)) (Some (n + 1)) (firstAfter set (n + 1) k) (λ r. r ≡ Some w → (onGrid set w ≡ true) × (n < w))
@@ -123,6 +120,3 @@ pub search-on : (set n m : ℕ) → n < m → m < n + 8 → Searched set n m →
 search-on set n m l h s f =
     let a : m + 1 - 1 ≡ m = omega arith in
     s ∙ one-left set n m l h ∙ cond-false _ _ _ f ∙ ap (λ x. firstAfter set x (n + 8 - (m + 1))) (sym a)
-
-pub search-ends : (set n : ℕ) → Searched set n (n + 8) → nextDay set n ≡ None
-search-ends set n s = let a : n + 8 - (n + 8) ≡ 0 = omega arith in s ∙ ap (firstAfter set (n + 8 - 1)) a

@@ -72,11 +72,6 @@ pub first-month : (l : Bool) → before l 1 ≡ 0
 unfolding before
 first-month l = refl
 
-pub year-long : (l : Bool) → before l 13 ≤ 366
-unfolding before
-year-long false = omega arith
-year-long true = omega arith
-
 -- later months start later
 pub months-on : (l : Bool) (m j : ℕ) → 1 ≤ m → m + j ≤ 13 → before l m ≤ before l (m + j)
 months-on l m zero h g = let e = ap (before l) (z m) in omega arith
