@@ -1,17 +1,24 @@
 -- The kind of amount leaves.
-use Rattle.std.specs.Prelude.{Bool, ◌&&◌, ℤ, ◌==◌, int_le, unsigned_abs}
+use Rattle.std.specs.Prelude.{Bool, true, ◌&&◌, ℤ, Some, None, Option, ◌==◌, unsigned_abs}
+use Rattle.std.specs.Int.Signed.{le_z}
 use Rattle.divisors.specs.Dividing.{bars_no_more, divide_all}
 use Rattle.divisors.specs.Rows.{is_folded, is_thinned}
-use Rattle.leaf.specs.Kind.{Kind, is_window_of}
+use Rattle.leaf.specs.Kind.{Kind}
 use Rattle.amounts.specs.declared.amount_leaf.AmountLeaf.{AmountLeaf}
 use Rattle.amounts.specs.Values.{incremented, is_amount, next_of, is_on_grid}
 use Rattle.amounts.specs.Rules.{admitted, both_at_most, step}
-use Rattle.amounts.specs.Leaves.{barred, required}
+use Rattle.amounts.specs.Leaves.{barred, is_window, required}
 use Rattle.amounts.specs.Reading.{leaf_at}
+
+abbrev pub is_bound : Option ℤ → Bool
+is_bound None = true
+is_bound (Some v) = is_amount v
 
 -- bounds that are amounts, minimum at most maximum, a folded and a thinned list
 abbrev pub is_lawful : AmountLeaf → Bool
-is_lawful a = is_window_of is_amount int_le a.bounds.minimum a.bounds.maximum && (is_folded a.required && is_thinned a.barred)
+is_lawful a =
+    is_bound a.bounds.minimum && (is_bound a.bounds.maximum && (is_window a.bounds.minimum a.bounds.maximum &&
+    (is_folded a.required && is_thinned a.barred)))
 
 abbrev pub amounts : Kind ℤ AmountLeaf
 amounts = record {

@@ -70,7 +70,7 @@ barred_length ws =
     let xs = tidy_of (map reduce_of ws) in
     omega (arith, kept_length (λ x. not (divided xs x)) xs, tidy_length (map reduce_of ws), map_length ws)
 
-pub take_front : (xs ys : List Fraction) → take (length xs) (xs ++ ys) ≡ xs
+take_front : (xs ys : List Fraction) → take (length xs) (xs ++ ys) ≡ xs
 take_front [] ys = refl
 take_front (x ∷ xs) ys = ap (λ (zs : List Fraction). x ∷ zs) (take_front xs ys)
 

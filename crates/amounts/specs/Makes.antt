@@ -1,5 +1,5 @@
 -- The leaf of bounds and divisors as written: which one it is, that it is lawful, and what it means.
-use Rattle.std.specs.Prelude.{◌≡◌, true, ◌&&◌, List, ℤ, Option}
+use Rattle.std.specs.Prelude.{◌≡◌, true, ◌&&◌, List, ℤ, Some, None, Option}
 use Rattle.std.proofs.lemmas.Bool.{and_from, and_parts}
 use Rattle.divisors.specs.declared.fraction.Fraction.{Fraction}
 use Rattle.divisors.specs.declared.row.Row.{Row}
@@ -9,8 +9,8 @@ use Rattle.divisors.specs.Settled.{settled}
 use Rattle.divisors.specs.Written.{FoldOf, ThinOf, barred_of, required_of}
 use Rattle.leaf.specs.Kind.{Lawful, is_value_window}
 use Rattle.amounts.specs.declared.amount_leaf.AmountLeaf.{AmountLeaf}
-use Rattle.amounts.specs.Amounts.{amounts}
-use Rattle.amounts.specs.Leaves.{leaf_of}
+use Rattle.amounts.specs.Amounts.{amounts, is_bound}
+use Rattle.amounts.specs.Leaves.{is_window, leaf_of}
 use Rattle.amounts.specs.Meaning.{Means}
 use Rattle.amounts.specs.Means.{leaf_means}
 use Rattle.amounts.specs.Rows.{row_of_lem}
@@ -19,7 +19,19 @@ abbrev with_rows : Option ℤ → Option ℤ → Row → Row → AmountLeaf
 with_rows low high r s = record { bounds = record { minimum = low; maximum = high }; required = r; barred = s }
 
 pub lawful_leaf : (low high : Option ℤ) (r s : Row) → is_value_window amounts low high ≡ true → is_folded r ≡ true → is_thinned s ≡ true → Lawful amounts (with_rows low high r s)
-lawful_leaf low high r s w f t = and_from (is_value_window amounts low high) (is_folded r && is_thinned s) w (and_from (is_folded r) (is_thinned s) f t)
+lawful_leaf low high r s w f t =
+    let u = and_parts (is_bound low) (is_bound high && is_window low high) (bounds low high w) in
+    let v = and_parts (is_bound high) (is_window low high) u.1 in
+    and_from (is_bound low) (is_bound high && (is_window low high && (is_folded r && is_thinned s))) u.0
+    (and_from (is_bound high) (is_window low high && (is_folded r && is_thinned s)) v.0
+    (and_from (is_window low high) (is_folded r && is_thinned s) v.1 (and_from (is_folded r) (is_thinned s) f t)))
+  where
+    -- bounds of the kind are bounds here
+    bounds : (a b : Option ℤ) → is_value_window amounts a b ≡ true → (is_bound a && (is_bound b && is_window a b)) ≡ true
+    bounds None None h = h
+    bounds None (Some y) h = h
+    bounds (Some x) None h = h
+    bounds (Some x) (Some y) h = h
 
 pub made_leaf :
     (low high : Option ℤ) (ws us : List Fraction) (r s : Row) → FoldOf ws (fractions r) → ThinOf us (fractions s) → is_folded r ≡ true → is_thinned s ≡ true →

@@ -1,5 +1,5 @@
 -- The leaf that a sheet holds: lawful, and meaning what is written.
-use Rattle.std.specs.Prelude.{◌≡◌, ℕ, ◌-◌, ◌≤◌, true, cond, ◌&&◌, List, length, replicate, ℤ, None, Ok, Option, refl}
+use Rattle.std.specs.Prelude.{◌≡◌, ℕ, ◌-◌, ◌≤◌, true, cond, ◌&&◌, List, [], ◌∷◌, ◌++◌, length, take, replicate, ℤ, None, Ok, Option, refl}
 use Rattle.std.proofs.Common.{sym, ap, subst, ◌∙◌, arith}
 use Rattle.std.proofs.lemmas.Bool.{and_from, cond_both, cond-true}
 use Rattle.divisors.specs.declared.fraction.Fraction.{Fraction}
@@ -24,7 +24,7 @@ use Rattle.amounts.specs.Leaves.{is_window, leaf_of, row_of}
 use Rattle.amounts.specs.Meaning.{Means, ReadMeans}
 use Rattle.amounts.specs.Reading.{Listed, Written, head_at, leaf_at, list_of, lists_at, written_at}
 use Rattle.amounts.specs.Endings.{Lists, Sound, list_taken, lists_end, written_sound}
-use Rattle.amounts.specs.Lengths.{barred_length, required_length, row_fractions, row_padded, take_front}
+use Rattle.amounts.specs.Lengths.{barred_length, required_length, row_fractions, row_padded}
 use Rattle.amounts.specs.Makes.{lawful_leaf}
 use Rattle.amounts.specs.Means.{leaf_means}
 
@@ -90,6 +90,10 @@ read_means s i a e = go (written_at s i) refl
     go (found w g) p =
         cond_both (is_window w.low w.high) (found (leaf_of w.low w.high w.required w.barred) g) (refused (at_byte 8 i)) (λ r. r ≡ found a e → Says s i a e)
         (λ _ q. said w g p q) (λ _ q. no (at_byte 8 i) refl q)
+
+take_front : (xs ys : List Fraction) → take (length xs) (xs ++ ys) ≡ xs
+take_front [] ys = refl
+take_front (x ∷ xs) ys = ap (λ (zs : List Fraction). x ∷ zs) (take_front xs ys)
 
 -- the lists in the places lent
 pub record Taken (s : List ℕ) (i : ℕ) (x y : WrittenList) (e : ℕ) : Type 0 where

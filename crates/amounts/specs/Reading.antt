@@ -1,23 +1,23 @@
 -- An amount leaf on a sheet: flags, the magnitudes of the bounds present, the count of required divisors and each as numerator
 -- and denominator, then the barred ones likewise.
-use Rattle.std.specs.Prelude.{◌≡◌, ℕ, zero, suc, ◌+◌, ◌-◌, ◌^◌, Bool, true, false, cond, not, ◌&&◌, ◌||◌, List, [], ◌∷◌, ◌++◌, length, take, replicate, ℤ, Some, None, Ok, Err, Option, Result, nat_lt}
+use Rattle.std.specs.Prelude.{◌≡◌, ℕ, zero, suc, ◌+◌, ◌-◌, ◌^◌, Bool, true, false, cond, not, ◌&&◌, ◌||◌, List, [], ◌∷◌, ◌++◌, length, take, drop, replicate, ℤ, Some, None, Ok, Err, Option, Result, nat_lt}
 use Rattle.divisors.specs.declared.fraction.Fraction.{Fraction}
 use Rattle.divisors.specs.Fractions.{none}
 use Rattle.leaf.specs.declared.fault.Fault.{Fault}
 use Rattle.leaf.specs.Faults.{Answer, found, refused, next, at_byte, shown}
-use Rattle.leaf.specs.Flags.{flags_at, has_bit}
-use Rattle.leaf.specs.Numbers.{number_at}
+use Rattle.leaf.specs.Numbers.{has_bit, number_at}
 use Rattle.amounts.specs.declared.amount_leaf.AmountLeaf.{AmountLeaf}
 use Rattle.amounts.specs.declared.reader.WrittenList.{WrittenList}
 use Rattle.amounts.specs.Values.{amount_of}
 use Rattle.amounts.specs.Leaves.{is_window, leaf_of}
 
--- flags: bit 0 minimum present, bit 1 maximum present, bit 2 minimum negative, bit 3 maximum negative; no sign stands without its bound
-abbrev pub signs_bound : ℕ → Bool
-signs_bound f = (has_bit f 0 || not (has_bit f 2)) && (has_bit f 1 || not (has_bit f 3))
+-- flags: bit 0 minimum present, bit 1 maximum present, bit 2 minimum negative, bit 3 maximum negative; no other bit, and no sign without its bound
+abbrev pub are_flags : ℕ → Bool
+are_flags f = nat_lt f 16 && ((has_bit f 0 || not (has_bit f 2)) && (has_bit f 1 || not (has_bit f 3)))
 
-abbrev pub signed_at : List ℕ → ℕ → Answer ℕ
-signed_at s at = next (flags_at 16 s at) (λ f e. cond (signs_bound f) (found f e) (refused (at_byte 4 at)))
+abbrev pub flags_at : ℕ → ℕ → List ℕ → Answer ℕ
+flags_at end at [] = refused (at_byte 2 end)
+flags_at end at (b ∷ bs) = cond (are_flags b) (found b (at + 1)) (refused (at_byte 4 at))
 
 abbrev pub amount_at : ℕ → ℕ → Option ℤ → Answer (Option ℤ)
 amount_at at e None = refused (at_byte 7 at)
@@ -57,7 +57,7 @@ pub record Written : Type 0 where
 
 -- flags and bounds
 abbrev pub head_at : List ℕ → ℕ → Answer (Option ℤ × Option ℤ)
-head_at s at = next (signed_at s at) (λ f e. bounds_at f s e)
+head_at s at = next (flags_at (length s) at (drop at s)) (λ f e. bounds_at f s e)
 
 -- the required list, then the barred one
 abbrev pub lists_at : List ℕ → ℕ → Answer (List Fraction × List Fraction)

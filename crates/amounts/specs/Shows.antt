@@ -1,5 +1,5 @@
 -- Amounts show the laws of a kind.
-use Rattle.std.specs.Prelude.{◌≡◌, ℕ, ◌%◌, ◌^◌, true, false, ◌&&◌, List, ℤ, pos, ◌+ℤ◌, ◌<ℤ◌, Some, None, ◌==◌, int_le, unsigned_abs, refl}
+use Rattle.std.specs.Prelude.{◌≡◌, ℕ, ◌%◌, ◌^◌, true, false, ◌&&◌, List, ℤ, pos, ◌+ℤ◌, ◌<ℤ◌, Some, None, Option, ◌==◌, int_le, unsigned_abs, refl}
 use Rattle.std.proofs.Common.{sym, ap, subst, ◌∙◌, ⊎_elim, arith}
 use Rattle.std.specs.Int.Signed.{mag}
 use Rattle.std.proofs.lemmas.Int.{ints}
@@ -13,8 +13,8 @@ use Rattle.divisors.proofs.Lawful.{barred_laws, order_laws, required_laws}
 use Rattle.divisors.proofs.Padded.{row_is}
 use Rattle.leaf.specs.Kind.{Laws, is_value_window, same_rule}
 use Rattle.amounts.specs.declared.amount_leaf.AmountLeaf.{AmountLeaf}
-use Rattle.amounts.specs.Amounts.{amounts, is_lawful}
-use Rattle.amounts.specs.Leaves.{barred, required}
+use Rattle.amounts.specs.Amounts.{amounts, is_bound, is_lawful}
+use Rattle.amounts.specs.Leaves.{barred, is_window, required}
 use Rattle.amounts.specs.Rules.{admitted, both_at_most, step}
 use Rattle.amounts.specs.Values.{incremented, is_amount, is_on_grid}
 use Rattle.amounts.specs.Makes.{lawful_leaf}
@@ -58,16 +58,24 @@ record Parts (a : AmountLeaf) : Type 0 where
   req : are_reduced (required a) ≡ true
   bar : are_reduced (barred a) ≡ true
 
+same_window : (x y : Option ℤ) → (is_bound x && (is_bound y && is_window x y)) ≡ true → is_value_window amounts x y ≡ true
+same_window None None h = h
+same_window None (Some y) h = h
+same_window (Some x) None h = h
+same_window (Some x) (Some y) h = h
+
 parts : (a : AmountLeaf) → is_lawful a ≡ true → Parts a
 parts a h =
     let l = a.bounds.minimum in
     let u = a.bounds.maximum in
-    let z = and_parts (is_value_window amounts l u) (is_folded a.required && is_thinned a.barred) h in
+    let x = and_parts (is_bound l) (is_bound u && (is_window l u && (is_folded a.required && is_thinned a.barred))) h in
+    let y = and_parts (is_bound u) (is_window l u && (is_folded a.required && is_thinned a.barred)) x.1 in
+    let z = and_parts (is_window l u) (is_folded a.required && is_thinned a.barred) y.1 in
     let t = and_parts (is_folded a.required) (is_thinned a.barred) z.1 in
     let s = (and_parts (padded a.required) (settled (required a)) t.0).1 in
     let b = (and_parts (padded a.barred) (thinned (barred a)) t.1).1 in
     record {
-      window = z.0;
+      window = same_window l u (and_from (is_bound l) (is_bound u && is_window l u) x.0 (and_from (is_bound u) (is_window l u) y.0 z.0));
       folded = t.0;
       thin = t.1;
       settles = s;

@@ -1,17 +1,17 @@
+ghost use Rattle.std.specs.Prelude.{◌≡◌, ◌+◌, ◌<◌, length, drop};
 ghost use Rattle.amounts.specs.Meaning.{ReadMeans};
-ghost use Rattle.amounts.specs.Reading.{Listed, bound_at, bounds_at, fraction_at, head_at, leaf_at, list_at, list_of, lists_at, part_at, places_of, signed_at, signs_bound};
+ghost use Rattle.amounts.specs.Reading.{Listed, are_flags, bound_at, bounds_at, flags_at, fraction_at, head_at, leaf_at, list_at, list_of, lists_at, part_at, places_of};
 ghost use Rattle.leaf.specs.Faults.{Fills, found, next, seen};
-ghost use Rattle.std.specs.Prelude.{◌≡◌};
 
 use crate::amount::amount;
 use crate::amount_leaf::{AmountLeaf, is_window, leaf_of};
 use divisors::Fraction;
-use leaf::{Bounds, Fault, Refusal, flags_at, has_flag, number};
+use leaf::{Bounds, Fault, Refusal, has_flag, number, rest_of};
 
 // The most divisors of a list as written.
 const PLACES: usize = 6;
 
-// Flags from here on are unknown.
+// The flags up to which a byte may be one.
 const FLAGS: u8 = 16;
 
 // The largest numerator and denominator.
@@ -46,10 +46,13 @@ impl WrittenList {
     }
 }
 
-// Whether no sign stands without its bound.
-fn signs_bound(flags: u8) -> bool
-    ensures { result ≡ signs_bound flags }
+// Whether a byte is the flags of an amount leaf: no unknown bit, no sign without its bound.
+fn are_flags(flags: u8) -> bool
+    ensures { result ≡ are_flags flags }
 {
+    if flags >= FLAGS {
+        return false;
+    }
     if has_flag(flags, 2) {
         if !has_flag(flags, 0) {
             return false;
@@ -62,14 +65,16 @@ fn signs_bound(flags: u8) -> bool
 }
 
 // The flags at `start`, and the place past them.
-fn signed_at(sheet: &[u8], start: usize) -> Result<(u8, usize), Fault>
-    ensures { seen result ≡ signed_at sheet.now start }
+fn flags_at(sheet: &[u8], start: usize) -> Result<(u8, usize), Fault>
+    ensures { seen result ≡ flags_at (length sheet.now) start (drop start sheet.now) }
 {
-    let (flags, end) = flags_at(sheet, start, FLAGS)?;
-    if !signs_bound(flags) {
+    let [flags, ..] = rest_of(sheet, start) else {
+        return Err(Fault::at(Refusal::EndsEarly, sheet.len()));
+    };
+    if !are_flags(*flags) {
         return Err(Fault::at(Refusal::UnknownByte, start));
     }
-    Ok((flags, end))
+    Ok((*flags, start + 1))
 }
 
 // A bound that is present is a magnitude under its sign.
@@ -152,7 +157,7 @@ fn list_at(sheet: &[u8], start: usize, into: &mut WrittenList) -> Result<usize, 
 fn head_at(sheet: &[u8], start: usize) -> Result<((Option<i64>, Option<i64>), usize), Fault>
     ensures { seen result ≡ head_at sheet.now start }
 {
-    let (flags, at_bounds) = signed_at(sheet, start)?;
+    let (flags, at_bounds) = flags_at(sheet, start)?;
     bounds_at(flags, sheet, at_bounds)
 }
 

@@ -1,17 +1,37 @@
-ghost use Rattle.std.specs.Prelude.{◌*◌, ◌≤◌, [], ◌∷◌, ◌++◌, length};
-ghost use Rattle.amounts.specs.Text.{bound_text, fraction_text, line_text, list_text, more_text, text_of};
+ghost use Rattle.std.specs.Prelude.{◌+◌, ◌*◌, ◌<◌, ◌≤◌, [], ◌∷◌, ◌++◌, length, decimal};
+ghost use Rattle.amounts.specs.Text.{Texted, Wrote, bound_text, fraction_text, line_text, list_text, more_text, text_of};
 ghost use Rattle.std.specs.Fmt.{signed_decimal};
-ghost use Rattle.text.specs.Text.{Wrote};
 
 use crate::amount_leaf::AmountLeaf;
 use divisors::Fraction;
 use leaf::{Fault, Refusal};
-use text::{Line, has_room, put_byte, put_decimal};
 
-// Each function writes at `at` and answers where its text ends; `short` says how long its text is at most.
+// The shortest buffer for a line.
+const ROOM: usize = 600;
+
+// Each function writes at `at` and answers where its text ends.
+fn put_byte(buf: &mut [u8], at: usize, b: u8) -> usize
+    requires { at < length buf.old }
+    ensures { Wrote buf.old at (b ∷ []) buf.new result }
+{
+    buf[at] = b;
+    at + 1
+}
+
+fn put_decimal(buf: &mut [u8], at: usize, n: u64) -> usize
+    requires { at + length (decimal n) ≤ length buf.old }
+    ensures { Wrote buf.old at (decimal n) buf.new result }
+{
+    if n < 10 {
+        return put_byte(buf, at, b'0' + n as u8);
+    }
+    let end = put_decimal(buf, at, n / 10);
+    put_byte(buf, end, b'0' + (n % 10) as u8)
+}
+
 fn put_signed(buf: &mut [u8], at: usize, z: i64) -> usize
-    ensures wrote { Wrote buf.old at (signed_decimal z) buf.new result }
-    ensures short { length (signed_decimal z) ≤ 20 }
+    requires { at + 20 ≤ length buf.old }
+    ensures { Wrote buf.old at (signed_decimal z) buf.new result }
 {
     if z < 0 {
         let next = put_byte(buf, at, b'-');
@@ -21,8 +41,8 @@ fn put_signed(buf: &mut [u8], at: usize, z: i64) -> usize
 }
 
 fn put_bound(buf: &mut [u8], at: usize, b: Option<i64>) -> usize
-    ensures wrote { Wrote buf.old at (bound_text b) buf.new result }
-    ensures short { length (bound_text b) ≤ 20 }
+    requires { at + 20 ≤ length buf.old }
+    ensures { Wrote buf.old at (bound_text b) buf.new result }
 {
     match b {
         None => put_byte(buf, at, b'*'),
@@ -31,8 +51,9 @@ fn put_bound(buf: &mut [u8], at: usize, b: Option<i64>) -> usize
 }
 
 fn put_fraction(buf: &mut [u8], at: usize, f: Fraction) -> usize
+    requires { at + 41 ≤ length buf.old }
     ensures wrote { Wrote buf.old at (fraction_text f) buf.new result }
-    ensures short { length (fraction_text f) ≤ 41 }
+    ensures short { result ≤ at + 41 }
 {
     let end = put_decimal(buf, at, f.p);
     if f.q == 1 {
@@ -44,8 +65,9 @@ fn put_fraction(buf: &mut [u8], at: usize, f: Fraction) -> usize
 
 // A comma before each fraction.
 fn put_more(buf: &mut [u8], at: usize, fs: &[Fraction]) -> usize
+    requires { at + 42 * length fs.now ≤ length buf.old }
     ensures wrote { Wrote buf.old at (more_text fs.now) buf.new result }
-    ensures short { length (more_text fs.now) ≤ 42 * length fs.now }
+    ensures short { result ≤ at + 42 * length fs.now }
 {
     let [first, rest @ ..] = fs else {
         return at;
@@ -57,8 +79,9 @@ fn put_more(buf: &mut [u8], at: usize, fs: &[Fraction]) -> usize
 
 // A list of fractions, or a dash.
 fn put_list(buf: &mut [u8], at: usize, fs: &[Fraction]) -> usize
+    requires { (length fs.now ≤ 6) × (at + 252 ≤ length buf.old) }
     ensures wrote { Wrote buf.old at (list_text fs.now) buf.new result }
-    ensures short { length fs.now ≤ 6 → length (list_text fs.now) ≤ 252 }
+    ensures short { result ≤ at + 252 }
 {
     let [first, rest @ ..] = fs else {
         return put_byte(buf, at, b'-');
@@ -69,8 +92,9 @@ fn put_list(buf: &mut [u8], at: usize, fs: &[Fraction]) -> usize
 
 // Both bounds, a space behind each.
 fn put_window(buf: &mut [u8], low: Option<i64>, high: Option<i64>) -> usize
+    requires { 42 ≤ length buf.old }
     ensures wrote { Wrote buf.old 0 (bound_text low ++ (32 ∷ (bound_text high ++ 32 ∷ []))) buf.new result }
-    ensures short { length (bound_text low ++ (32 ∷ (bound_text high ++ 32 ∷ []))) ≤ 42 }
+    ensures short { result ≤ 42 }
 {
     let a = put_bound(buf, 0, low);
     let b = put_byte(buf, a, b' ');
@@ -78,29 +102,12 @@ fn put_window(buf: &mut [u8], low: Option<i64>, high: Option<i64>) -> usize
     put_byte(buf, c, b' ')
 }
 
-fn put_line(
-    buf: &mut [u8],
-    low: Option<i64>,
-    high: Option<i64>,
-    required: &[Fraction],
-    barred: &[Fraction],
-) -> usize
-    ensures wrote { Wrote buf.old 0 (text_of low high required.now barred.now) buf.new result }
-    ensures short { length required.now ≤ 6 → length barred.now ≤ 6 → length (text_of low high required.now barred.now) ≤ 600 }
-{
-    let a = put_window(buf, low, high);
-    let b = put_list(buf, a, required);
-    let c = put_byte(buf, b, b' ');
-    let d = put_list(buf, c, barred);
-    put_byte(buf, d, 10)
-}
-
-// Amount leaves print as lines.
-impl Line for AmountLeaf {
-    ghost text = { line_text };
-
-    fn write_line(&self, buf: &mut [u8]) -> Result<usize, Fault> {
-        if !has_room(buf.len()) {
+impl AmountLeaf {
+    // The leaf's line and a line feed at the front of the buffer, whose rest stays; refusal 11 where it is under 600 bytes.
+    pub fn write_line(&self, buf: &mut [u8]) -> Result<usize, Fault>
+        ensures { Texted (line_text self.now) buf.old buf.new result }
+    {
+        if buf.len() < ROOM {
             return Err(Fault::unplaced(Refusal::ShortBuffer));
         }
         Ok(put_line(
@@ -111,4 +118,21 @@ impl Line for AmountLeaf {
             self.barred.fractions(),
         ))
     }
+}
+
+fn put_line(
+    buf: &mut [u8],
+    low: Option<i64>,
+    high: Option<i64>,
+    required: &[Fraction],
+    barred: &[Fraction],
+) -> usize
+    requires { (600 ≤ length buf.old) × ((length required.now ≤ 6) × (length barred.now ≤ 6)) }
+    ensures { Wrote buf.old 0 (text_of low high required.now barred.now) buf.new result }
+{
+    let a = put_window(buf, low, high);
+    let b = put_list(buf, a, required);
+    let c = put_byte(buf, b, b' ');
+    let d = put_list(buf, c, barred);
+    put_byte(buf, d, 10)
 }

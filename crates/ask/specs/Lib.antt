@@ -1,6 +1,1 @@
 pub mod Outcomes
-pub mod Splitting
-pub mod AmountQuestions
-pub mod DayTexts
-pub mod DayQuestions
-pub mod Lines

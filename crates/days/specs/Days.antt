@@ -1,15 +1,16 @@
 -- The kind of day leaves.
-use Rattle.std.specs.Prelude.{ℕ, ◌+◌, Bool, cond, ◌&&◌, leb, Some, None, ◌==◌, nat_le, nat_lt}
-use Rattle.leaf.specs.Kind.{Kind, is_window_of}
+use Rattle.std.specs.Prelude.{ℕ, ◌+◌, Bool, cond, ◌&&◌, Some, None, ◌==◌, nat_le, nat_lt}
+use Rattle.leaf.specs.Kind.{Kind}
 use Rattle.days.specs.declared.day_leaf.DayLeaf.{DayLeaf}
 use Rattle.days.specs.Calendar.{is_day_number}
-use Rattle.days.specs.Leaves.{leaf_of}
+use Rattle.days.specs.Leaves.{is_bound, is_window, leaf_of}
 use Rattle.days.specs.Reading.{leaf_at}
 use Rattle.days.specs.Weekdays.{holds, is_set, next_day, is_on_grid}
 
 -- bounds that are days, minimum at most maximum, a set of weekdays
 abbrev pub is_lawful : DayLeaf → Bool
-is_lawful a = is_window_of is_day_number leb a.bounds.minimum a.bounds.maximum && is_set a.weekdays
+is_lawful a =
+    is_bound a.bounds.minimum && (is_bound a.bounds.maximum && (is_window a.bounds.minimum a.bounds.maximum && is_set a.weekdays))
 
 abbrev pub days : Kind ℕ DayLeaf
 days = record {

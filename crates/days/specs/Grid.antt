@@ -2,7 +2,7 @@
 use Rattle.std.specs.Prelude.{◌≡◌, ℕ, zero, suc, ◌+◌, ◌-◌, ◌%◌, ◌<◌, ◌≤◌, true, false, cond, ◌&&◌, ◌⊎◌, Some, None, ◌==◌, ◌≢◌, nat_lt, refl}
 use Rattle.std.proofs.Common.{sym, ap, ◌∙◌, inl, inr, arith}
 use Rattle.std.proofs.lemmas.Bool.{cond-true, cond-false, lt-ltb, le-ltb, ltb-true, ltb-false, cases_Bool, cond_both, and_parts, and_from, true≢false}
-use Rattle.leaf.specs.Flags.{has_bit}
+use Rattle.leaf.specs.Numbers.{has_bit}
 use Rattle.days.specs.Calendar.{is_day_number, weekday}
 use Rattle.days.specs.Weekdays.{first_after, next_day, is_on_grid}
 

@@ -1,27 +1,30 @@
 -- What is read of a day leaf is lawful, and ends past its start and within the sheet.
-use Rattle.std.specs.Prelude.{◌≡◌, ℕ, ◌<◌, ◌≤◌, Bool, true, false, List, length, Some, None, Option, refl}
-use Rattle.std.proofs.Common.{subst, arith}
+use Rattle.std.specs.Prelude.{◌≡◌, ℕ, ◌+◌, ◌-◌, ◌<◌, ◌≤◌, Bool, true, false, List, [], ◌∷◌, length, drop, Some, None, Option, nat_lt, refl}
+use Rattle.std.proofs.Common.{subst, arith, length-drop}
 use Rattle.std.proofs.lemmas.Bool.{cond_both}
 use Rattle.leaf.specs.Faults.{Answer, found, refused, at_byte}
 use Rattle.leaf.specs.declared.bounds.Bounds.{Bounds}
-use Rattle.leaf.specs.Flags.{flags_at, has_bit}
-use Rattle.leaf.specs.Numbers.{number_at}
-use Rattle.leaf.specs.Kind.{WellRead, is_bound}
-use Rattle.leaf.proofs.Chains.{ends_found, flags_end, next_both, number_ends}
+use Rattle.leaf.specs.Numbers.{has_bit, number_at}
+use Rattle.leaf.specs.Kind.{WellRead}
+use Rattle.leaf.proofs.Chains.{next_both, Ends, ends_found, number_ends}
 use Rattle.days.specs.Calendar.{day_of}
 use Rattle.days.specs.Days.{days}
-use Rattle.days.specs.Leaves.{is_window, leaf_of}
-use Rattle.days.specs.Reading.{bound_at, bounds_at, day_at, leaf_at, set_at}
+use Rattle.days.specs.Leaves.{is_bound, is_window, leaf_of}
+use Rattle.days.specs.Reading.{bound_at, bounds_at, day_at, flags_at, leaf_at, set_at}
 use Rattle.days.specs.Weekdays.{is_set}
 use Rattle.days.specs.Dates.{day_small}
 use Rattle.days.specs.Lawful.{leaf_lawful}
 
+flags_end : (s : List ℕ) (i : ℕ) (d : List ℕ) → length d ≤ length s - i → Ends s i (flags_at (length s) i d)
+flags_end s i [] l = tt
+flags_end s i (b ∷ bs) l = cond_both (nat_lt b 4) (found b (i + 1)) (refused (at_byte 4 i)) (Ends s i) (λ _. (omega arith, omega arith)) (λ _. tt)
+
 -- a bound that may be absent ends no earlier than it starts
 abbrev Bound : List ℕ → ℕ → Answer (Option ℕ) → Type 0
-Bound s i (found x e) = (is_bound days x ≡ true) × (i ≤ e) × (e ≤ length s)
+Bound s i (found x e) = (is_bound x ≡ true) × (i ≤ e) × (e ≤ length s)
 Bound s i (refused r) = Unit {0}
 
-day_end : (s : List ℕ) (i e : ℕ) (o : Option ℕ) → ((n : ℕ) → o ≡ Some n → is_bound days (Some n) ≡ true) → i ≤ e → e ≤ length s → Bound s i (day_at i e o)
+day_end : (s : List ℕ) (i e : ℕ) (o : Option ℕ) → ((n : ℕ) → o ≡ Some n → is_bound (Some n) ≡ true) → i ≤ e → e ≤ length s → Bound s i (day_at i e o)
 day_end s i e None f l h = tt
 day_end s i e (Some n) f l h = (f n refl, l, h)
 
@@ -34,11 +37,11 @@ bound_end true s i h =
     let c = ends_found s f (number_at s f) d g (number_ends s f) r in
     day_end s i g (day_of y m d) (λ n z. day_small y m d n z) (omega (arith, a.0, b.0, c.0)) c.1)))
 
-bound_known : (s : List ℕ) (i : ℕ) (a : Answer (Option ℕ)) (x : Option ℕ) (e : ℕ) → Bound s i a → a ≡ found x e → (is_bound days x ≡ true) × (i ≤ e) × (e ≤ length s)
+bound_known : (s : List ℕ) (i : ℕ) (a : Answer (Option ℕ)) (x : Option ℕ) (e : ℕ) → Bound s i a → a ≡ found x e → (is_bound x ≡ true) × (i ≤ e) × (e ≤ length s)
 bound_known s i a x e h q = subst (Bound s i) q h
 
 abbrev Window : List ℕ → ℕ → Answer (Bounds ℕ) → Type 0
-Window s i (found w e) = (is_bound days w.minimum ≡ true) × (is_bound days w.maximum ≡ true) × (i ≤ e) × (e ≤ length s)
+Window s i (found w e) = (is_bound w.minimum ≡ true) × (is_bound w.maximum ≡ true) × (i ≤ e) × (e ≤ length s)
 Window s i (refused r) = Unit {0}
 
 bounds_end : (f : ℕ) (s : List ℕ) (i : ℕ) → i ≤ length s → Window s i (bounds_at f s i)
@@ -61,8 +64,8 @@ set_end s i =
 
 pub well_read : (s : List ℕ) (i : ℕ) → WellRead days s i (leaf_at s i)
 well_read s i =
-    next_both (flags_at 4 s i) _ (WellRead days s i) (λ _. tt) (λ f e p.
-    let a = ends_found s i (flags_at 4 s i) f e (flags_end 4 s i) p in
+    next_both (flags_at (length s) i (drop i s)) _ (WellRead days s i) (λ _. tt) (λ f e p.
+    let a = ends_found s i (flags_at (length s) i (drop i s)) f e (flags_end s i (drop i s) (omega (arith, length-drop i s))) p in
     next_both (bounds_at f s e) _ (WellRead days s i) (λ _. tt) (λ w g q.
     let b = subst (Window s e) q (bounds_end f s e a.1) in
     next_both (set_at s g) _ (WellRead days s i) (λ _. tt) (λ set end r.

@@ -5,7 +5,7 @@ use Rattle.std.proofs.Math.Arith.{bin_ind}
 use Rattle.std.proofs.Math.Nat.{zero-min}
 use Rattle.std.proofs.lemmas.Nat.{shr-shr, and_comm, and_shr, and_mod, and_mask}
 use Rattle.std.specs.Int.Bits.{and_step, and_self}
-use Rattle.leaf.specs.Flags.{has_bit}
+use Rattle.leaf.specs.Numbers.{has_bit}
 use Rattle.days.specs.Weekdays.{holds}
 
 digit : (x y z : ℕ) → x < 2 → y < 2 → z < 2 → bit_and (bit_and x y) z ≡ bit_and x (bit_and y z)

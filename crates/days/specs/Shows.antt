@@ -3,14 +3,14 @@ use Rattle.std.specs.Prelude.{◌≡◌, ℕ, ◌+◌, ◌<◌, ◌≤◌, true,
 use Rattle.std.proofs.Common.{sym, ap, ◌∙◌, arith}
 use Rattle.std.proofs.lemmas.Bool.{leb-true, leb-false, le-leb, lt-leb, ltb-true, ltb-false, lt-ltb, cond_both, and_parts, and_from}
 use Rattle.leaf.specs.Kind.{Laws, same_rule}
-use Rattle.leaf.specs.Flags.{has_bit}
+use Rattle.leaf.specs.Numbers.{has_bit}
 use Rattle.days.specs.declared.day_leaf.DayLeaf.{DayLeaf}
 use Rattle.days.specs.Calendar.{is_day_number, weekday}
 use Rattle.days.specs.Weekdays.{holds, is_on_grid}
 use Rattle.days.specs.Days.{days}
 use Rattle.days.specs.Grid.{absent, grid_day, next_grid, next_least, next_none}
 use Rattle.days.specs.Sets.{holds_self, holds_trans, holds_anti, holds_has}
-use Rattle.days.specs.Lawful.{lawful_parts, widened_lawful}
+use Rattle.days.specs.Lawful.{lawful_parts, same_window, widened_lawful}
 use Rattle.days.specs.Read.{well_read}
 
 total : (a b : ℕ) → nat_le a b ≡ false → nat_le b a ≡ true
@@ -47,7 +47,7 @@ days_laws = record {
   succ_above = λ v w p e. let n = succ_is v w e in (lt-ltb w 73049 (omega (arith, n.0, n.1)), lt-leb w v (omega (arith, n.0)));
   succ_least = λ v w u p e h. le-leb w u (omega (arith, (succ_is v w e).0, leb-false u v h));
   succ_none = λ v u p e h. le-leb u v (omega (arith, succ_last v e, ltb-true u 73049 h));
-  window = λ a p. (lawful_parts a p).0;
+  window = λ a p. sym (same_window a.bounds.minimum a.bounds.maximum) ∙ (lawful_parts a.bounds.minimum a.bounds.maximum a.weekdays p).0;
   rule_total = λ a b p q h. total a.weekdays b.weekdays h;
   rule_trans = λ a b c p q r h i. trans a.weekdays b.weekdays c.weekdays h i;
   tie_grid = λ a b v p q s g. ap (λ w. is_on_grid w v) (sym (one_rule a b s)) ∙ g;
@@ -58,7 +58,7 @@ days_laws = record {
   next_grid = λ a v w p q e. let n = next_grid a.weekdays v w e in (n.0, lt-leb w v n.1);
   next_least = λ a v w u p q e g h. le-leb w u (next_least a.weekdays v w u e g (leb-false u v h));
   next_none = λ a v u p q e g. le-leb u v (next_none a.weekdays v u e g);
-  widened_lawful = λ a b x y p q s w. widened_lawful x y a.weekdays w (lawful_parts a p).1;
+  widened_lawful = λ a b x y p q s w. widened_lawful x y a.weekdays w (lawful_parts a.bounds.minimum a.bounds.maximum a.weekdays p).1;
   widened_rule = λ a b x y p q s w. tied a (days.widened a b x y) refl;
   widened_minimum = λ a b x y. refl;
   widened_maximum = λ a b x y. refl;

@@ -1,6 +1,6 @@
 -- Sets of weekdays, bit 0 Monday, and the days whose weekday is in one.
 use Rattle.std.specs.Prelude.{◌≡◌, ℕ, zero, suc, ◌+◌, Bool, true, cond, ◌&&◌, Some, None, Option, ◌==◌, bit_and, nat_le}
-use Rattle.leaf.specs.Flags.{has_bit}
+use Rattle.leaf.specs.Numbers.{has_bit}
 use Rattle.days.specs.Calendar.{is_day_number, weekday}
 
 -- at least one weekday, and none past Sunday

@@ -3,7 +3,6 @@ mod calendar;
 mod day_leaf;
 mod kind;
 mod reader;
-mod text;
 mod weekdays;
 
 pub use calendar::{Date, date_of, day_number};

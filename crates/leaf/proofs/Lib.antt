@@ -4,4 +4,3 @@ pub mod Writing
 pub mod Encodes
 pub mod Beginnings
 pub mod Hulls
-pub mod Limits

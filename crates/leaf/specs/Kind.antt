@@ -59,15 +59,6 @@ module _ {V : Type 0} where
   abbrev pub higher_of : (V → V → Bool) → Option V → Option V → Option V
   higher_of le a b = cond (ext_le le (upto a) (upto b)) b a
 
-  -- an absent bound, or a value
-  abbrev pub bound_of : (V → Bool) → Option V → Bool
-  bound_of is_value None = true
-  bound_of is_value (Some v) = is_value v
-
-  -- a minimum and a maximum that are values, the one at most the other
-  abbrev pub is_window_of : (V → Bool) → (V → V → Bool) → Option V → Option V → Bool
-  is_window_of is_value le x y = bound_of is_value x && (bound_of is_value y && ext_le le (from x) (upto y))
-
   -- no grid value g, if there is one, lies below l
   abbrev pub none_below : (V → V → Bool) → Option V → V → Bool
   none_below le None l = true
@@ -110,10 +101,12 @@ module _ {V L : Type 0} (k : Kind V L) where
   Higher r a b = (ext_le k.le (upto a) (upto r) ≡ true) × (ext_le k.le (upto b) (upto r) ≡ true) × ((r ≡ a) ⊎ (r ≡ b))
 
   abbrev pub is_bound : Option V → Bool
-  is_bound = bound_of k.is_value
+  is_bound None = true
+  is_bound (Some v) = k.is_value v
 
+  -- a minimum and a maximum that are values, the one at most the other
   abbrev pub is_value_window : Option V → Option V → Bool
-  is_value_window = is_window_of k.is_value k.le
+  is_value_window x y = is_bound x && (is_bound y && ext_le k.le (from x) (upto y))
 
   abbrev pub Lawful : L → Type 0
   Lawful a = k.lawful a ≡ true

@@ -1,8 +1,5 @@
-ghost use Rattle.leaf.specs.Faults.{seen};
-ghost use Rattle.leaf.specs.Flags.{flags_at, has_bit};
+ghost use Rattle.leaf.specs.Numbers.{has_bit};
 ghost use Rattle.std.specs.Prelude.{◌≡◌, drop};
-
-use crate::fault::{Fault, Refusal};
 
 // The part of the sheet from `start` on, empty where `start` lies past its end.
 pub fn rest_of<'a>(sheet: &'a [u8], start: usize) -> &'a [u8]
@@ -21,17 +18,4 @@ pub fn has_flag(flags: u8, bit: u32) -> bool
     } else {
         false
     }
-}
-
-// The flags byte at `start`, of which those below `limit` are known, and the place past it.
-pub fn flags_at(sheet: &[u8], start: usize, limit: u8) -> Result<(u8, usize), Fault>
-    ensures { seen result ≡ flags_at limit sheet.now start }
-{
-    let [flags, ..] = rest_of(sheet, start) else {
-        return Err(Fault::at(Refusal::EndsEarly, sheet.len()));
-    };
-    if *flags >= limit {
-        return Err(Fault::at(Refusal::UnknownByte, start));
-    }
-    Ok((*flags, start + 1))
 }

@@ -2,7 +2,7 @@
 use Rattle.std.proofs.Common.{◌≡◌, ℕ, suc, ◌+◌, ◌<◌, ◌≤◌, cond, eqb, List, ◌∷◌, length, get_or, drop, Some, None, Option, sym, ap, ◌∙◌, arith}
 use Rattle.std.proofs.lemmas.List.{at_drop_more, at_drop_all}
 use Rattle.std.proofs.lemmas.Bool.{cond-true, cond-false, eq-eqb, ne_eqb}
-use Rattle.notation.specs.Text.{index_of, stepped}
+use Rattle.notation.specs.Text.{digits_after, index_of, with_digit}
 
 module _ (c : ℕ) (bs : List ℕ) (i : ℕ) where
   here : i < length bs → index_of c (drop i bs) ≡ cond (eqb (get_or bs i 0) c) 0 (suc (index_of c (drop (i + 1) bs)))
@@ -20,17 +20,17 @@ module _ (c : ℕ) (bs : List ℕ) (i : ℕ) where
   pub index_end : length bs ≤ i → i ≤ length bs → index_of c bs ≡ i + index_of c (drop i bs) → length bs ≡ index_of c bs
   index_end h k inv = omega (arith, at_drop_all (index_of c) bs i h)
 
-module _ (step : ℕ → ℕ → Option ℕ) (n m : ℕ) (bs : List ℕ) (i : ℕ) where
-  step_here : i < length bs → stepped step m (drop i bs) ≡ stepped step m (get_or bs i 0 ∷ drop (i + 1) bs)
-  step_here h = at_drop_more (stepped step m) bs i 0 h
+module _ (n m : ℕ) (bs : List ℕ) (i : ℕ) where
+  digit_here : i < length bs → digits_after m (drop i bs) ≡ digits_after m (get_or bs i 0 ∷ drop (i + 1) bs)
+  digit_here h = at_drop_more (digits_after m) bs i 0 h
 
-  pub step_none : i < length bs → None ≡ step m (get_or bs i 0) → stepped step m (drop i bs) ≡ stepped step n bs → None ≡ stepped step n bs
-  step_none h e inv =
-      ap (λ (o : Option ℕ). elim o [ Some k ↦ stepped step k (drop (i + 1) bs) | None ↦ None ]) e ∙ (sym (step_here h) ∙ inv)
+  pub digit_none : i < length bs → None ≡ with_digit m (get_or bs i 0) → digits_after m (drop i bs) ≡ digits_after n bs → None ≡ digits_after n bs
+  digit_none h e inv =
+      ap (λ (o : Option ℕ). elim o [ Some k ↦ digits_after k (drop (i + 1) bs) | None ↦ None ]) e ∙ (sym (digit_here h) ∙ inv)
 
-  pub step_on : (k : ℕ) → i < length bs → Some k ≡ step m (get_or bs i 0) → stepped step m (drop i bs) ≡ stepped step n bs → stepped step k (drop (i + 1) bs) ≡ stepped step n bs
-  step_on k h e inv =
-      ap (λ (o : Option ℕ). elim o [ Some j ↦ stepped step j (drop (i + 1) bs) | None ↦ None ]) e ∙ (sym (step_here h) ∙ inv)
+  pub digit_on : (k : ℕ) → i < length bs → Some k ≡ with_digit m (get_or bs i 0) → digits_after m (drop i bs) ≡ digits_after n bs → digits_after k (drop (i + 1) bs) ≡ digits_after n bs
+  digit_on k h e inv =
+      ap (λ (o : Option ℕ). elim o [ Some j ↦ digits_after j (drop (i + 1) bs) | None ↦ None ]) e ∙ (sym (digit_here h) ∙ inv)
 
-  pub step_end : length bs ≤ i → stepped step m (drop i bs) ≡ stepped step n bs → Some m ≡ stepped step n bs
-  step_end h inv = sym (at_drop_all (stepped step m) bs i h) ∙ inv
+  pub digit_end : length bs ≤ i → digits_after m (drop i bs) ≡ digits_after n bs → Some m ≡ digits_after n bs
+  digit_end h inv = sym (at_drop_all (digits_after m) bs i h) ∙ inv

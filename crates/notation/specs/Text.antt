@@ -13,14 +13,10 @@ index_of c (b ∷ bs) = cond (b == c) 0 (suc (index_of c bs))
 abbrev pub with_digit : ℕ → ℕ → Option ℕ
 with_digit n b = cond (nat_le 48 b && nat_le b 57) (Some (min (n * 10 + (b - 48)) (2 ^ 64 - 1))) None
 
--- bytes one after another, each of which takes a number a step on; nothing where one takes it nowhere
-abbrev pub stepped : (ℕ → ℕ → Option ℕ) → ℕ → List ℕ → Option ℕ
-stepped step n [] = Some n
-stepped step n (b ∷ bs) = elim (step n b) [ Some m ↦ stepped step m bs | None ↦ None ]
-
 -- the digits bs behind those that write n
 abbrev pub digits_after : ℕ → List ℕ → Option ℕ
-digits_after = stepped with_digit
+digits_after n [] = Some n
+digits_after n (b ∷ bs) = elim (with_digit n b) [ Some m ↦ digits_after m bs | None ↦ None ]
 
 -- the number that a row of digits writes
 abbrev pub number_of : List ℕ → Option ℕ

@@ -1,12 +1,18 @@
 -- Windows of every day show the laws of a kind.
-use Rattle.std.specs.Prelude.{◌≡◌, ℕ, ◌+◌, ◌^◌, ◌<◌, ◌≤◌, true, false, ◌&&◌, List, length, Some, None, nat_le, refl}
-use Rattle.std.proofs.Common.{ap, ◌∙◌, arith}
+use Rattle.std.specs.Prelude.{◌≡◌, ℕ, ◌+◌, ◌^◌, ◌<◌, ◌≤◌, true, false, ◌&&◌, leb, List, length, Some, None, Option, nat_le, refl}
+use Rattle.std.proofs.Common.{sym, ap, ◌∙◌, arith}
 use Rattle.std.proofs.lemmas.Bool.{and_from, cond_both, le-leb, leb-false, leb-true, lt-leb, ltb-false, ltb-true}
 use Rattle.leaf.specs.Faults.{Answer, found, refused, at_byte}
-use Rattle.leaf.specs.Kind.{Laws, WellRead}
+use Rattle.leaf.specs.Kind.{Laws, WellRead, is_value_window, ext_le, from, upto}
 use Rattle.leaf.specs.Numbers.{number_at}
 use Rattle.leaf.proofs.Chains.{ends_found, next_both, number_ends}
-use Rattle.spans.specs.Spans.{day_at, following, is_day, span_at, spans, window}
+use Rattle.spans.specs.Spans.{day_at, following, is_bound, is_day, span_at, spans, window}
+
+same_window : (x y : Option ℕ) → (is_bound x && (is_bound y && ext_le leb (from x) (upto y))) ≡ is_value_window spans x y
+same_window None None = refl
+same_window None (Some y) = refl
+same_window (Some x) None = refl
+same_window (Some x) (Some y) = refl
 
 next_some : (v w : ℕ) → following v ≡ Some w → (w ≡ v + 1) × (is_day w ≡ true)
 next_some v w =
@@ -61,7 +67,7 @@ spans_laws = record {
   succ_above = λ v w p e. above v w e;
   succ_least = λ v w u p e h. least v w u e h;
   succ_none = λ v u p e q. none v u e q;
-  window = λ a p. p;
+  window = λ a p. sym (same_window a.bounds.minimum a.bounds.maximum) ∙ p;
   rule_total = λ a b p q h. refl;
   rule_trans = λ a b c p q r h i. refl;
   tie_grid = λ a b v p q s h. h;
@@ -72,7 +78,7 @@ spans_laws = record {
   next_grid = λ a v w p q e. above v w e;
   next_least = λ a v w u p q e g h. least v w u e h;
   next_none = λ a v u p q e g. none v u e g;
-  widened_lawful = λ a b x y p q s w. w;
+  widened_lawful = λ a b x y p q s w. same_window x y ∙ w;
   widened_rule = λ a b x y p q s w. refl;
   widened_minimum = λ a b x y. refl;
   widened_maximum = λ a b x y. refl;

@@ -1,12 +1,16 @@
 -- Windows of every day: one rule, and every day on its grid.
-use Rattle.std.specs.Prelude.{ℕ, ◌+◌, ◌^◌, Bool, true, cond, leb, List, Some, None, Option, ◌==◌, nat_le, nat_lt}
+use Rattle.std.specs.Prelude.{ℕ, ◌+◌, ◌^◌, Bool, true, cond, ◌&&◌, leb, List, Some, None, Option, ◌==◌, nat_le, nat_lt}
 use Rattle.leaf.specs.Faults.{Answer, found, refused, at_byte, next}
-use Rattle.leaf.specs.Kind.{Kind, is_window_of}
+use Rattle.leaf.specs.Kind.{Kind, ext_le, from, upto}
 use Rattle.leaf.specs.Numbers.{number_at}
 use Rattle.spans.specs.declared.span.Span.{Span}
 
 abbrev pub is_day : ℕ → Bool
 is_day v = nat_lt v (2 ^ 32)
+
+abbrev pub is_bound : Option ℕ → Bool
+is_bound None = true
+is_bound (Some v) = is_day v
 
 abbrev pub following : ℕ → Option ℕ
 following v = cond (is_day (v + 1)) (Some (v + 1)) None
@@ -26,7 +30,7 @@ spans = record {
   is_value = is_day;
   le = leb;
   succ = following;
-  lawful = λ a. is_window_of is_day leb a.bounds.minimum a.bounds.maximum;
+  lawful = λ a. is_bound a.bounds.minimum && (is_bound a.bounds.maximum && ext_le leb (from a.bounds.minimum) (upto a.bounds.maximum));
   minimum = λ a. a.bounds.minimum;
   maximum = λ a. a.bounds.maximum;
   rule_le = λ a b. true;

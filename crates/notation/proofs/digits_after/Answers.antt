@@ -1,12 +1,11 @@
-use Rattle.notation.specs.Text.{with_digit}
-use Rattle.notation.proofs.Reading.{step_none, step_on, step_end}
+use Rattle.notation.proofs.Reading.{digit_none, digit_on, digit_end}
 use Rattle.notation.proofs.digits_after.Goals as goal
 
 pub returns-in-default : goal.returns-in-default
-returns-in-default c = step_none with_digit c.args.n c.loop-b.now c.args.text.now c.loop-b.b-index c.loop-b-test.true c.in-default.ensures c.loop-b.invariant
+returns-in-default c = digit_none c.args.n c.loop-b.now c.args.text.now c.loop-b.b-index c.loop-b-test.true c.in-default.ensures c.loop-b.invariant
 
 pub loop-b-preserved : goal.loop-b-preserved
-loop-b-preserved c = step_on with_digit c.args.n c.loop-b.now c.args.text.now c.loop-b.b-index c.in-Some.m c.loop-b-test.true c.in-Some.ensures c.loop-b.invariant
+loop-b-preserved c = digit_on c.args.n c.loop-b.now c.args.text.now c.loop-b.b-index c.in-Some.m c.loop-b-test.true c.in-Some.ensures c.loop-b.invariant
 
 pub returns : goal.returns
-returns c = step_end with_digit c.args.n c.loop-b.now c.args.text.now c.loop-b.b-index c.loop-b-test.false c.loop-b.invariant
+returns c = digit_end c.args.n c.loop-b.now c.args.text.now c.loop-b.b-index c.loop-b-test.false c.loop-b.invariant

@@ -1,17 +1,14 @@
-use Rattle.std.proofs.Common.{◌≡◌, ◌-◌, ◌<◌, List, length, get_or, take, drop, ap, subst, arith, length-drop, ltb-false, ltb-true}
-use Rattle.std.proofs.lemmas.List.{length-append, take_rest}
+use Rattle.std.proofs.Common.{◌≡◌, ◌-◌, ◌<◌, List, length, take, drop, ap, subst, arith, length-drop, ltb-false, ltb-true}
+use Rattle.std.proofs.lemmas.List.{take_rest}
 use Rattle.divisors.specs.declared.fraction.Fraction.{Fraction}
-use Rattle.divisors.specs.Fractions.{none}
-use Rattle.text.specs.Text.{Wrote}
-use Rattle.text.proofs.Writes.{wrote_none, wrote_then}
-use Rattle.amounts.specs.Text.{fraction_text, more_text}
-use Rattle.amounts.proofs.Writes.{more_none, more_step}
+use Rattle.amounts.specs.Text.{Wrote, more_text}
+use Rattle.amounts.proofs.Writes.{more_none, more_step, wrote_none, wrote_then}
 use Rattle.amounts.proofs.text.+put_more.Goals as goal
 
 pub returns-in-default : goal.returns-in-default
 returns-in-default t c =
     let e = more_none c.args.fs.now (omega (arith, ltb-true)) in
-    record { wrote = rw e (wrote_none c.args.buf.now c.args.at); short = omega (arith, ap length e) }
+    record { wrote = rw e (wrote_none c.args.buf.now c.args.at (omega arith)); short = omega arith }
 
 pub returns : goal.returns
 returns t c =
@@ -25,8 +22,5 @@ returns t c =
           (wrote_then c.put-byte-next.ensures
           (wrote_then c.put-fraction-end.ensures.wrote
           (subst (λ (gs : List Fraction). Wrote c.put-fraction-end.new.buf c.put-fraction-end.result (more_text gs) c.put-more.new.buf c.put-more.result) rest c.put-more.ensures.wrote)));
-      short =
-          let f = c.put-fraction-end.ensures.short in
-          let m = c.put-more.ensures.short in
-          omega (arith, ap length (more_step fs some), length-append (fraction_text (get_or fs 0 none)) (more_text (drop 1 fs)), ap length rest, ap (λ (gs : List Fraction). length (more_text gs)) rest);
+      short = let n = c.put-byte-next.ensures.end in let f = c.put-fraction-end.ensures.short in let m = c.put-more.ensures.short in let l = ap length rest in omega arith;
     }

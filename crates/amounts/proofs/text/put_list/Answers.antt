@@ -1,17 +1,9 @@
-use Rattle.std.proofs.Common.{◌≡◌, ◌-◌, ◌<◌, List, length, get_or, take, drop, ap, subst, arith, length-drop, ltb-false, ltb-true}
-use Rattle.std.proofs.lemmas.List.{length-append, take_rest}
+use Rattle.std.proofs.Common.{◌≡◌, ◌-◌, ◌<◌, List, length, take, drop, ap, subst, arith, length-drop, ltb-false}
+use Rattle.std.proofs.lemmas.List.{take_rest}
 use Rattle.divisors.specs.declared.fraction.Fraction.{Fraction}
-use Rattle.divisors.specs.Fractions.{none}
-use Rattle.text.specs.Text.{Wrote}
-use Rattle.text.proofs.Writes.{wrote_then}
-use Rattle.amounts.specs.Text.{fraction_text, more_text}
-use Rattle.amounts.proofs.Writes.{list_none, list_step}
+use Rattle.amounts.specs.Text.{Wrote, more_text}
+use Rattle.amounts.proofs.Writes.{list_step, wrote_then}
 use Rattle.amounts.proofs.text.put_list.Goals as goal
-
-pub returns-in-default : goal.returns-in-default
-returns-in-default c =
-    let e = list_none c.args.fs.now (omega (arith, ltb-true)) in
-    record { wrote = rw e c.put-byte.ensures; short = λ _. omega (arith, ap length e) }
 
 pub returns : goal.returns
 returns c =
@@ -24,9 +16,5 @@ returns c =
           rw (list_step fs some)
           (wrote_then c.put-fraction-end.ensures.wrote
           (subst (λ (gs : List Fraction). Wrote c.put-fraction-end.new.buf c.put-fraction-end.result (more_text gs) c.put-more.new.buf c.put-more.result) rest c.put-more.ensures.wrote));
-      short =
-          λ few.
-          let f = c.put-fraction-end.ensures.short in
-          let m = c.put-more.ensures.short in
-          omega (arith, ap length (list_step fs some), length-append (fraction_text (get_or fs 0 none)) (more_text (drop 1 fs)), ap length rest, ap (λ (gs : List Fraction). length (more_text gs)) rest);
+      short = let f = c.put-fraction-end.ensures.short in let m = c.put-more.ensures.short in let l = ap length rest in omega arith;
     }

@@ -3,7 +3,7 @@ use Rattle.std.proofs.lemmas.Nat.{and_mask}
 use Rattle.std.proofs.lemmas.Bool.{lt-ltb, le-ltb}
 use Rattle.days.specs.Calendar.{weekday}
 use Rattle.days.specs.Weekdays.{is_on_grid}
-use Rattle.leaf.specs.Flags.{has_bit}
+use Rattle.leaf.specs.Numbers.{has_bit}
 use Rattle.days.proofs.weekdays.is_in_set.Goals as goal
 
 pub returns-then-day-gt-LAST-DAY : goal.returns-then-day-gt-LAST-DAY

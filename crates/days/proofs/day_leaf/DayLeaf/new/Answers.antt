@@ -1,21 +1,10 @@
-use Rattle.std.proofs.Common.{ℕ, Option, subst, rules}
-use Rattle.days.specs.Leaves.{leaf_of}
-use Rattle.days.specs.Meaning.{Means, value_of}
+use Rattle.std.proofs.Common.{rules}
 use Rattle.days.specs.Lawful.{bound_found, leaf_lawful}
-use Rattle.days.proofs.Means.{leaf_means}
 use Rattle.days.proofs.day_leaf.DayLeaf.new.Goals as goal
 
 pub returns : goal.returns
 returns c =
-    let l = c.in-ok-low.low in
-    let h = c.in-ok-high.high in
-    let set = c.args.set in
-    let low = bound_found c.args.minimum l (search rules) in
-    let high = bound_found c.args.maximum h (search rules) in
     record {
       value = search rules;
-      sound = leaf_lawful l h set low.0 high.0 (search rules) (search rules);
-      means =
-          subst (λ (y : Option ℕ). Means (value_of c.args.minimum) y set (leaf_of l h set)) high.1
-          (subst (λ (x : Option ℕ). Means x h set (leaf_of l h set)) low.1 (leaf_means l h set));
+      sound = leaf_lawful c.in-ok-low.low c.in-ok-high.high c.args.set (bound_found c.args.minimum c.in-ok-low.low (search rules)) (bound_found c.args.maximum c.in-ok-high.high (search rules)) (search rules) (search rules);
     }

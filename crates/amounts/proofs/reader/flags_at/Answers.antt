@@ -1,6 +1,6 @@
 use Rattle.std.proofs.Common.{◌<◌, length, ap, arith, rules, ltb-false}
 use Rattle.std.proofs.lemmas.List.{length-drop}
-use Rattle.leaf.proofs.sheet.flags_at.Goals as goal
+use Rattle.amounts.proofs.reader.flags_at.Goals as goal
 
 pub overflow-add-result : goal.overflow-add-result
 overflow-add-result c =

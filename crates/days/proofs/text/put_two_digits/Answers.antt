@@ -1,5 +1,0 @@
-use Rattle.text.proofs.Writes.{wrote_then}
-use Rattle.days.proofs.text.put_two_digits.Goals as goal
-
-pub returns : goal.returns
-returns c = wrote_then c.put-byte-next.ensures c.put-byte.ensures
