@@ -18,8 +18,6 @@ const ALL: u8 = 127;
 impl Leaf<u32> for DayLeaf {
     ghost kind = { days };
 
-    ghost lawfully = { days_laws };
-
     fn blank() -> DayLeaf {
         DayLeaf {
             bounds: Bounds {
@@ -80,4 +78,6 @@ impl Leaf<u32> for DayLeaf {
         *place = leaf;
         Ok(end)
     }
+
+    ghost lawfully = { days_laws };
 }
