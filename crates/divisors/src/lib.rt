@@ -1,4 +1,6 @@
 // Divisors p/q of integers: folding of required ones, thinning of barred ones, and the questions that rules ask of them.
+#![tactic(auto)]
+
 mod folded;
 mod folding;
 mod fraction;

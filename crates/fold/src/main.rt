@@ -1,4 +1,6 @@
 // Folds lists of divisors: each line of standard input is a required list and a barred list.
+#![tactic(auto)]
+
 ghost use Rattle.divisors.specs.Written.{number_of, refusal_of_both};
 ghost use Rattle.fold.specs.Outcomes.{folded_or, outcome_of, said};
 ghost use Rattle.std.specs.Prelude.{◌≡◌, IfOk};

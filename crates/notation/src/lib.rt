@@ -1,4 +1,6 @@
 // Numbers and divisors as text: a divisor is `p` or `p/q` in decimal, commas stand between divisors, `-` is an empty list.
+#![tactic(auto)]
+
 ghost use Rattle.std.specs.Prelude.{◌≡◌, ◌+◌, ◌≤◌, map, length, take, drop, IfOk, vec_items};
 ghost use Rattle.notation.specs.Text.{dashed, digits_after, divisor_of, divisors_of, fraction_of, index_of, is_dash, listed, number_of, pieces, signed_of, with_digit};
 ghost use Rattle.std.specs.Option.{option_map};
