@@ -1,4 +1,6 @@
 // Amount leaves: whole cents in a window, with required and barred divisors.
+#![tactic(auto)]
+
 mod amount;
 mod amount_leaf;
 mod grid;

@@ -1,4 +1,6 @@
 // Answers questions about amounts: each line of standard input is an amount leaf as text and a value.
+#![tactic(auto)]
+
 ghost use Rattle.ask.specs.Outcomes.{amount_in, bound_in, field_in, fields_in, line_outcome, outcome_of, said, texts};
 ghost use Rattle.leaf.specs.Faults.{number_of};
 ghost use Rattle.std.specs.Option.{option_map};

@@ -1,5 +1,7 @@
 // Replays sheets with the answers that were expected of them, a line each, and counts those that differ.
-use hex::read_hex;
+#![tactic(auto)]
+
+use hex_text::read_hex;
 use leaf::Layer;
 use list::SheetAnswer;
 use notation::{behind, find, front};

@@ -1,4 +1,6 @@
 // A user of the list: what is promised of every run holds of its own table.
+#![tactic(auto)]
+
 ghost use Rattle.leaf.specs.Kind.{Lawful};
 ghost use Rattle.list.specs.Runs.{Promised};
 ghost use Rattle.list.specs.Runs.Call.{insert, sheet};

@@ -1,4 +1,6 @@
 // Day leaves: days of 2000 to 2199 in a window, with a set of weekdays.
+#![tactic(auto)]
+
 mod calendar;
 mod day_leaf;
 mod kind;

@@ -12,7 +12,7 @@ pub struct Bounds<V> {
 
 // Of two minimums, an absent one being lowest.
 pub(crate) fn is_low<V: Copy, L: Leaf<V>>(a: Option<V>, b: Option<V>) -> bool
-    ensures { result ≡ ext_le kind.le (from a) (from b) }
+    ensures { result ≡ ext_le L.kind.le (from a) (from b) }
 {
     let Some(x) = a else {
         return true;
@@ -25,7 +25,7 @@ pub(crate) fn is_low<V: Copy, L: Leaf<V>>(a: Option<V>, b: Option<V>) -> bool
 
 // Of two maximums, an absent one being highest.
 pub(crate) fn is_high<V: Copy, L: Leaf<V>>(a: Option<V>, b: Option<V>) -> bool
-    ensures { result ≡ ext_le kind.le (upto a) (upto b) }
+    ensures { result ≡ ext_le L.kind.le (upto a) (upto b) }
 {
     let Some(y) = b else {
         return true;
@@ -38,7 +38,7 @@ pub(crate) fn is_high<V: Copy, L: Leaf<V>>(a: Option<V>, b: Option<V>) -> bool
 
 // Whether a value lies in the window.
 pub fn contains<V: Copy, L: Leaf<V>>(bounds: Bounds<V>, v: V) -> bool
-    ensures { result ≡ (ext_le kind.le (from bounds.minimum) (value v) && ext_le kind.le (value v) (upto bounds.maximum)) }
+    ensures { result ≡ (ext_le L.kind.le (from bounds.minimum) (value v) && ext_le L.kind.le (value v) (upto bounds.maximum)) }
 {
     if !is_low::<V, L>(bounds.minimum, Some(v)) {
         return false;
@@ -48,7 +48,7 @@ pub fn contains<V: Copy, L: Leaf<V>>(bounds: Bounds<V>, v: V) -> bool
 
 // Whether the window includes another: an absent bound is included only by an absent one.
 pub fn includes<V: Copy, L: Leaf<V>>(outer: Bounds<V>, inner: Bounds<V>) -> bool
-    ensures { result ≡ (ext_le kind.le (from outer.minimum) (from inner.minimum) && ext_le kind.le (upto inner.maximum) (upto outer.maximum)) }
+    ensures { result ≡ (ext_le L.kind.le (from outer.minimum) (from inner.minimum) && ext_le L.kind.le (upto inner.maximum) (upto outer.maximum)) }
 {
     if !is_low::<V, L>(outer.minimum, inner.minimum) {
         return false;
@@ -58,8 +58,8 @@ pub fn includes<V: Copy, L: Leaf<V>>(outer: Bounds<V>, inner: Bounds<V>) -> bool
 
 // The lower minimum and the higher maximum of two windows.
 pub fn hull<V: Copy, L: Leaf<V>>(a: Bounds<V>, b: Bounds<V>) -> Bounds<V>
-    ensures low { result.minimum ≡ lower_of kind.le a.minimum b.minimum }
-    ensures high { result.maximum ≡ higher_of kind.le a.maximum b.maximum }
+    ensures low { result.minimum ≡ lower_of L.kind.le a.minimum b.minimum }
+    ensures high { result.maximum ≡ higher_of L.kind.le a.maximum b.maximum }
 {
     let minimum = if is_low::<V, L>(a.minimum, b.minimum) {
         a.minimum

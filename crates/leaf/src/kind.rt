@@ -60,8 +60,8 @@ pub trait Leaf<V: Copy>: Copy {
 
 // The leaf's window.
 pub fn bounds_of<V: Copy, L: Leaf<V>>(leaf: &L) -> Bounds<V>
-    ensures low { result.minimum ≡ kind.minimum leaf.now }
-    ensures high { result.maximum ≡ kind.maximum leaf.now }
+    ensures low { result.minimum ≡ L.kind.minimum leaf.now }
+    ensures high { result.maximum ≡ L.kind.maximum leaf.now }
 {
     Bounds {
         minimum: leaf.minimum(),
@@ -71,7 +71,7 @@ pub fn bounds_of<V: Copy, L: Leaf<V>>(leaf: &L) -> Bounds<V>
 
 // Whether the leaf's window holds the value and its rule admits it.
 pub fn admits<V: Copy, L: Leaf<V>>(leaf: &L, v: V) -> bool
-    ensures { result ≡ admitted kind leaf.now v }
+    ensures { result ≡ admitted L.kind leaf.now v }
 {
     if !contains::<V, L>(bounds_of(leaf), v) {
         return false;
@@ -81,7 +81,7 @@ pub fn admits<V: Copy, L: Leaf<V>>(leaf: &L, v: V) -> bool
 
 // Whether a stands no later than b: by rule, then minimum.
 pub fn no_later<V: Copy, L: Leaf<V>>(a: &L, b: &L) -> bool
-    ensures { result ≡ before kind a.now b.now }
+    ensures { result ≡ before L.kind a.now b.now }
 {
     if !a.rule_at_most(b) {
         return false;
@@ -94,7 +94,7 @@ pub fn no_later<V: Copy, L: Leaf<V>>(a: &L, b: &L) -> bool
 
 // Whether a leaf joins the one before it: the rules tie, and no value of their grid lies strictly between.
 pub fn adjoins<V: Copy, L: Leaf<V>>(earlier: &L, later: &L) -> bool
-    ensures { result ≡ touches kind earlier.now later.now }
+    ensures { result ≡ touches L.kind earlier.now later.now }
 {
     if !earlier.rule_at_most(later) {
         return false;
@@ -116,7 +116,7 @@ pub fn adjoins<V: Copy, L: Leaf<V>>(earlier: &L, later: &L) -> bool
 
 // Whether a's window includes b's and its rule covers b's; the windows are looked at first.
 pub fn covers<V: Copy, L: Leaf<V>>(a: &L, b: &L) -> bool
-    ensures { result ≡ covering kind a.now b.now }
+    ensures { result ≡ covering L.kind a.now b.now }
 {
     if !includes::<V, L>(bounds_of(a), bounds_of(b)) {
         return false;
@@ -126,8 +126,8 @@ pub fn covers<V: Copy, L: Leaf<V>>(a: &L, b: &L) -> bool
 
 // Two leaves of one rule joined: the lower minimum and the higher maximum.
 pub fn join<V: Copy, L: Leaf<V>>(a: &L, b: &L) -> L
-    ensures value { result ≡ joined kind a.now b.now }
-    ensures joins { Lawful kind a.now → Lawful kind b.now → same_rule kind a.now b.now ≡ true → Joins kind a.now b.now result }
+    ensures value { result ≡ joined L.kind a.now b.now }
+    ensures joins { Lawful L.kind a.now → Lawful L.kind b.now → same_rule L.kind a.now b.now ≡ true → Joins L.kind a.now b.now result }
 {
     a.widened(b, hull::<V, L>(bounds_of(a), bounds_of(b)))
 }

@@ -1,4 +1,6 @@
 // What every kind of leaf shares: the interface with its laws, windows of values, refusals, and the reader of numbers.
+#![tactic(auto)]
+
 mod bounds;
 mod fault;
 mod kind;

@@ -1,4 +1,6 @@
 // Prints the lines of the sheet on standard input, and what refused it.
+#![tactic(auto)]
+
 use sheets::print_sheet;
 use std::io;
 use std::io::{Read, Write};

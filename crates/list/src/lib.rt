@@ -1,4 +1,6 @@
 // One list for every kind of leaf, in a table that its caller lends: leaves are inserted or read from sheets, and a reading leaves the lines.
+#![tactic(auto)]
+
 mod dropping;
 mod leaves;
 mod merging;

@@ -1,6 +1,6 @@
 -- A line of a batch.
 use Rattle.std.specs.Prelude.{ℕ, List, take, Option}
-use Rattle.hex.specs.Hex.{hex_of}
+use Rattle.hex_text.specs.Hex.{hex_of}
 use Rattle.notation.specs.Text.{index_of}
 
 -- the bytes before a comment, which begins with #

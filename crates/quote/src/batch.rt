@@ -4,7 +4,7 @@ ghost use Rattle.std.specs.Option.{option_map};
 
 use amounts::AmountLeaf;
 use days::DayLeaf;
-use hex::read_hex;
+use hex_text::read_hex;
 use leaf::Fault;
 use list::{Leaves, SheetAnswer};
 use notation::{behind, find, front};

@@ -1,4 +1,6 @@
 // Takes a batch of sheets, a line of hexadecimal each, and prints the quotation: the lines of each kind, what was refused, and how much was taken.
+#![tactic(auto)]
+
 mod batch;
 mod lists;
 

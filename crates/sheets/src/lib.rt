@@ -1,4 +1,6 @@
 // Sheets as text: what one comes to, in lines and what refused it, whichever its kind.
+#![tactic(auto)]
+
 mod output;
 mod printing;
 

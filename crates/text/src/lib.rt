@@ -1,4 +1,6 @@
 // Texts in a buffer, what prints as a line, and the text of a refusal.
+#![tactic(auto)]
+
 mod lines;
 mod put;
 mod refusals;

@@ -1,6 +1,8 @@
 // Bytes as text: two hexadecimal digits each, spaces between bytes.
+#![tactic(auto)]
+
 ghost use Rattle.std.specs.Prelude.{◌≡◌, ◌<◌, length, drop, IfSome, IfOk, vec_items};
-ghost use Rattle.hex.specs.Hex.{byte_in, byte_of, digit_of, hex_of};
+ghost use Rattle.hex_text.specs.Hex.{byte_in, byte_of, digit_of, hex_of};
 ghost use Rattle.std.specs.Option.{option_map};
 
 use std::alloc::{AllocError, Global};

@@ -1,7 +1,7 @@
 use Rattle.std.proofs.Common.{◌≡◌, ℕ, ◌-◌, List, ◌++◌, length, drop, vec_items}
 use Rattle.std.specs.Option.{option_map}
-use Rattle.hex.specs.Hex.{hex_of}
-use Rattle.hex.proofs.read_hex.Given as goal
+use Rattle.hex_text.specs.Hex.{hex_of}
+use Rattle.hex_text.proofs.read_hex.Given as goal
 
 -- the bytes so far, then those of the rest
 abbrev pub invariant-loop-i : goal.invariant-loop-i

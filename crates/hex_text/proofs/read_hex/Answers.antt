@@ -1,5 +1,5 @@
-use Rattle.hex.proofs.Texts.{all_bytes, with_byte, with_space, without_byte}
-use Rattle.hex.proofs.read_hex.Goals as goal
+use Rattle.hex_text.proofs.Texts.{all_bytes, with_byte, with_space, without_byte}
+use Rattle.hex_text.proofs.read_hex.Goals as goal
 
 pub loop-i-preserved-then-text-i-eq-SPACE : goal.loop-i-preserved-then-text-i-eq-SPACE
 loop-i-preserved-then-text-i-eq-SPACE c = with_space c.args.text.now _ c.loop-i-test.true _ c.loop-i.invariant c.if-text-i-eq-SPACE.true

@@ -1,6 +1,6 @@
 use Rattle.std.proofs.Common.{sym, rules}
-use Rattle.hex.proofs.Texts.{byte_there, byte_cut}
-use Rattle.hex.proofs.byte_at.Goals as goal
+use Rattle.hex_text.proofs.Texts.{byte_there, byte_cut}
+use Rattle.hex_text.proofs.byte_at.Goals as goal
 
 pub returns-then-i-text : goal.returns-then-i-text
 returns-then-i-text c = search (rules, byte_there)
