@@ -1,5 +1,5 @@
 -- A kept list made again is the same list: so a row is tested by making it again.
-use Rattle.std.proofs.Common.{◌≡◌, ℕ, zero, suc, ◌/◌, ◌^◌, ◌<◌, Bool, true, cond, not, ◌&&◌, ltb, ◌⊎◌, List, [], ◌∷◌, ◌++◌, map, length, get_or, None, filter, sym, refl, ap, ◌∙◌, ⊎_elim, div-one, arith}
+use Rattle.std.proofs.Common.{◌≡◌, ℕ, zero, suc, ◌/◌, ◌^◌, ◌<◌, Bool, true, cond, not, ◌&&◌, ltb, List, [], ◌∷◌, ◌++◌, map, length, get_or, None, filter, sym, refl, ap, ◌∙◌, ⊎_elim, div-one, arith}
 use Rattle.std.specs.List.{AllByRecursion as All}
 use Rattle.std.proofs.ByRecursion.{All-append, All-get_or}
 use Rattle.std.proofs.lemmas.List.{append_assoc, append-nil}
@@ -9,7 +9,7 @@ use Rattle.divisors.specs.Dividing.{divided, thin_of, thinned}
 use Rattle.divisors.specs.Folding.{NoJoin, NoStrip, done, fold_of}
 use Rattle.divisors.specs.Fractions.{Reduced, in_range, join_of, lower, none, reduce_of, same}
 use Rattle.divisors.specs.Lists.{put, put_all, tidy_of}
-use Rattle.divisors.specs.Settled.{firm, settled}
+use Rattle.divisors.specs.Settled.{settled}
 use Rattle.divisors.specs.Written.{are_in_range, barred_of, lowest_above, over_integers, required_of}
 use Rattle.divisors.proofs.Ascends.{Lower, put_is, puts}
 use Rattle.divisors.proofs.Folds.{folds_to}
