@@ -74,8 +74,6 @@ fn closing_at(sheet: &[u8], start: usize) -> Result<(Closing, usize), Fault>
 impl<L: Leaf<u32>> Leaf<u32> for Closed<L> {
     ghost kind = { closed L.Leaf.kind };
 
-    ghost lawfully = { closed_laws L.Leaf.kind L.Leaf.lawfully };
-
     fn blank() -> Closed<L> {
         Closed {
             below: L::blank(),
@@ -151,4 +149,6 @@ impl<L: Leaf<u32>> Leaf<u32> for Closed<L> {
         *place = Closed { below, closing };
         Ok(end)
     }
+
+    ghost lawfully = { closed_laws L.Leaf.kind L.Leaf.lawfully };
 }

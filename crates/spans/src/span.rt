@@ -29,8 +29,6 @@ fn day_at(sheet: &[u8], start: usize) -> Result<(u32, usize), Fault>
 impl Leaf<u32> for Span {
     ghost kind = { spans };
 
-    ghost lawfully = { spans_laws };
-
     fn blank() -> Span {
         Span {
             bounds: Bounds {
@@ -95,4 +93,6 @@ impl Leaf<u32> for Span {
         *place = Span { bounds };
         Ok(end)
     }
+
+    ghost lawfully = { spans_laws };
 }

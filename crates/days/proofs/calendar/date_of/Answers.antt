@@ -8,6 +8,6 @@ returns-else-n-le-LAST-DAY c = record { value = le-ltb c.args.n 73049 (omega ari
 
 pub returns-then-n-le-LAST-DAY : goal.returns-then-n-le-LAST-DAY
 returns-then-n-le-LAST-DAY c =
-    let d = c.find-date.result in
-    let e = c.find-date.ensures in
+    let d = c.find_date.result in
+    let e = c.find_date.ensures in
     record { value = dated d.year d.month d.day e.0 ∙ ap Some e.1; laws = calendar_stands }

@@ -8,8 +8,8 @@ returns-then-day-ge-LAST-DAY c = sym (next_past c.args.set c.args.day (omega ari
 pub loop-next-init : goal.loop-next-init
 loop-next-init c = searched c.args.set c.args.day
 
-pub returns-then-is-in-set : goal.returns-then-is-in-set
-returns-then-is-in-set c =
+pub returns-then-is_in_set : goal.returns-then-is_in_set
+returns-then-is_in_set c =
     sym (search_hit c.args.set c.args.day c.loop-next.next (omega arith) (omega arith) c.loop-next.invariant (search rules))
 
 pub loop-next-preserved : goal.loop-next-preserved

@@ -6,5 +6,5 @@ pub returns : goal.returns
 returns c =
     record {
       value = search rules;
-      sound = leaf_lawful c.in-ok-low.low c.in-ok-high.high c.args.set (bound_found c.args.minimum c.in-ok-low.low (search rules)) (bound_found c.args.maximum c.in-ok-high.high (search rules)) (search rules) (search rules);
+      sound = leaf_lawful c.in_ok-low.low c.in_ok-high.high c.args.set (bound_found c.args.minimum c.in_ok-low.low (search rules)) (bound_found c.args.maximum c.in_ok-high.high (search rules)) (search rules) (search rules);
     }
