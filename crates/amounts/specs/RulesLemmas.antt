@@ -1,5 +1,5 @@
 -- What a rule admits, its grid, and the order of rules.
-use Rattle.std.specs.Prelude.{◌≡◌, ℕ, ◌*◌, ◌%◌, ◌^◌, ◌<◌, true, false, cond, not, ◌&&◌, ◌⊎◌, List, [], ◌∷◌, ℤ, Some, None, Decides, Option, ◌==◌, nat_lt, unsigned_abs, refl}
+use Rattle.std.specs.Prelude.{◌≡◌, ℕ, ◌*◌, ◌%◌, ◌^◌, ◌<◌, true, false, cond, not, ◌&&◌, List, [], ◌∷◌, ℤ, Some, None, Decides, Option, ◌==◌, nat_lt, unsigned_abs, refl}
 use Rattle.std.proofs.Common.{sym, ap, subst, ◌∙◌, ⊎_elim, mul-one, arith}
 use Rattle.std.proofs.Math.Nat.{mod-one}
 use Rattle.std.proofs.lemmas.Bool.{and_from, and_parts, both_ways, cases_Bool, cond_both, cond-true, eqb-true, false≢true, ltb-true, not_from_false, not-true, true≢false}

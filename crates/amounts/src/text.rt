@@ -5,6 +5,7 @@ ghost use Rattle.std.specs.Fmt.{signed_decimal};
 use crate::amount_leaf::AmountLeaf;
 use divisors::Fraction;
 use leaf::{Fault, Refusal};
+use text::Line;
 
 // The shortest buffer for a line.
 const ROOM: usize = 600;
@@ -135,4 +136,13 @@ fn put_line(
     let c = put_byte(buf, b, b' ');
     let d = put_list(buf, c, barred);
     put_byte(buf, d, 10)
+}
+
+// Amount leaves print as lines.
+impl Line for AmountLeaf {
+    ghost text = { line_text };
+
+    fn write_line(&self, buf: &mut [u8]) -> Result<usize, Fault> {
+        AmountLeaf::write_line(self, buf)
+    }
 }

@@ -1,6 +1,6 @@
 -- A folded row admits what the written one admits.
 use Rattle.std.proofs.Common.{◌≡◌, ℕ, suc, ◌<◌, ◌↔◌, List, length, get_or, take, drop, set, sym, subst, ⊎_elim, arith}
-use Rattle.std.specs.List.{remove, AllByRecursion as All}
+use Rattle.std.specs.List.{remove, AllByRecursion}
 use Rattle.std.proofs.lemmas.List.{length-set, get_or-set_same, get_or-set_other}
 use Rattle.std.proofs.ByRecursion.{All-append, All-take, All-drop, All-set, All-get_or, All-from_get_or}
 use Rattle.std.proofs.lemmas.Bool.{cases_eq}
@@ -14,10 +14,10 @@ use Rattle.divisors.proofs.Strips.{strip_reduced, strip_multiple}
 use Rattle.divisors.proofs.Tidies.{tidy_in, tidy_out}
 use Rattle.divisors.proofs.Members.{Multiples}
 
-at : (P : Fraction → Type 0) (xs : List Fraction) → All P xs → (i : ℕ) → i < length xs → P (get_or xs i none)
+at : (P : Fraction → Type 0) (xs : List Fraction) → AllByRecursion P xs → (i : ℕ) → i < length xs → P (get_or xs i none)
 at P xs h i l = All-get_or P xs i none l h
 
-pub joined_reduced : (xs : List Fraction) (t : Pair) → All Reduced xs → FirstJoin xs t → All Reduced (joined_by t xs)
+pub joined_reduced : (xs : List Fraction) (t : Pair) → AllByRecursion Reduced xs → FirstJoin xs t → AllByRecursion Reduced (joined_by t xs)
 joined_reduced xs t h f =
     let j = join_reduced (get_or xs t.left none) (get_or xs t.right none) t.join (at Reduced xs h t.left (omega (arith, f.ordered, f.within))) (at Reduced xs h t.right f.within) f.joins in
     let ys = set xs t.left t.join in
@@ -25,12 +25,12 @@ joined_reduced xs t h f =
     tidy_in Reduced (remove ys t.right)
     (All-append Reduced (take t.right ys) (drop (suc t.right) ys) (All-take Reduced t.right ys s) (All-drop Reduced (suc t.right) ys s))
 
-pub stripped_reduced : (xs : List Fraction) (t : Strip) → All Reduced xs → FirstStrip xs t → All Reduced (stripped_by t xs)
+pub stripped_reduced : (xs : List Fraction) (t : Strip) → AllByRecursion Reduced xs → FirstStrip xs t → AllByRecursion Reduced (stripped_by t xs)
 stripped_reduced xs t h f =
     tidy_in Reduced (set xs t.at t.left)
     (All-set Reduced xs t.at t.left (strip_reduced (get_or xs t.at none) (get_or xs t.by none) t.left (at Reduced xs h t.at f.within) f.strips) h)
 
-joined_admits : (xs : List Fraction) (t : Pair) (v : ℕ) → All Reduced xs → FirstJoin xs t → (Multiples (joined_by t xs) v) ↔ (Multiples xs v)
+joined_admits : (xs : List Fraction) (t : Pair) (v : ℕ) → AllByRecursion Reduced xs → FirstJoin xs t → (Multiples (joined_by t xs) v) ↔ (Multiples xs v)
 joined_admits xs t v h f =
     let M : Fraction → Type 0 = λ g. Multiple g v in
     let ys = remove (set xs t.left t.join) t.right in
@@ -39,7 +39,7 @@ joined_admits xs t v h f =
       λ a. tidy_in M ys (All-from_get_or M ys none (s.1 (at M xs a))),
     )
 
-stripped_admits : (xs : List Fraction) (t : Strip) (v : ℕ) → All Reduced xs → FirstStrip xs t → (Multiples (stripped_by t xs) v) ↔ (Multiples xs v)
+stripped_admits : (xs : List Fraction) (t : Strip) (v : ℕ) → AllByRecursion Reduced xs → FirstStrip xs t → (Multiples (stripped_by t xs) v) ↔ (Multiples xs v)
 stripped_admits xs t v h f =
     let M : Fraction → Type 0 = λ g. Multiple g v in
     let ys = set xs t.at t.left in
@@ -60,7 +60,7 @@ stripped_admits xs t v h f =
           tidy_in M ys (All-set M xs t.at t.left ((s (at M xs a t.by f.by_within)).1 (at M xs a t.at f.within)) a),
     )
 
-pub fold_admits : (xs ys : List Fraction) → FoldsTo xs ys → All Reduced xs → (v : ℕ) → (Multiples ys v) ↔ (Multiples xs v)
+pub fold_admits : (xs ys : List Fraction) → FoldsTo xs ys → AllByRecursion Reduced xs → (v : ℕ) → (Multiples ys v) ↔ (Multiples xs v)
 fold_admits xs ys (done n m) h v = (λ a. a, λ a. a)
 fold_admits xs ys (joined t f r) h v =
     let i = fold_admits (joined_by t xs) ys r (joined_reduced xs t h f) v in

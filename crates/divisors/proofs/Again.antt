@@ -1,6 +1,6 @@
 -- A kept list made again is the same list: so a row is tested by making it again.
-use Rattle.std.proofs.Common.{◌≡◌, ℕ, zero, suc, ◌/◌, ◌^◌, ◌<◌, Bool, true, cond, not, ◌&&◌, ltb, ◌⊎◌, List, [], ◌∷◌, ◌++◌, map, length, get_or, None, filter, sym, refl, ap, ◌∙◌, ⊎_elim, div-one, arith}
-use Rattle.std.specs.List.{AllByRecursion as All}
+use Rattle.std.proofs.Common.{◌≡◌, ℕ, zero, suc, ◌/◌, ◌^◌, ◌<◌, Bool, true, cond, not, ◌&&◌, ltb, List, [], ◌∷◌, ◌++◌, map, length, get_or, None, filter, sym, refl, ap, ◌∙◌, ⊎_elim, div-one, arith}
+use Rattle.std.specs.List.{AllByRecursion}
 use Rattle.std.proofs.ByRecursion.{All-append, All-get_or}
 use Rattle.std.proofs.lemmas.List.{append_assoc, append-nil}
 use Rattle.std.proofs.lemmas.Bool.{and_from, cases_order, cond-true, lt-ltb}
@@ -9,7 +9,7 @@ use Rattle.divisors.specs.Dividing.{divided, thin_of, thinned}
 use Rattle.divisors.specs.Folding.{NoJoin, NoStrip, done, fold_of}
 use Rattle.divisors.specs.Fractions.{Reduced, in_range, join_of, lower, none, reduce_of, same}
 use Rattle.divisors.specs.Lists.{put, put_all, tidy_of}
-use Rattle.divisors.specs.Settled.{firm, settled}
+use Rattle.divisors.specs.Settled.{settled}
 use Rattle.divisors.specs.Written.{are_in_range, barred_of, lowest_above, over_integers, required_of}
 use Rattle.divisors.proofs.Ascends.{Lower, put_is, puts}
 use Rattle.divisors.proofs.Folds.{folds_to}
@@ -23,25 +23,25 @@ reduce_same f r =
     let q = ap (λ (g : ℕ). f.q / g) r.coprime ∙ div-one f.q in
     λ i. record { p = p i; q = q i }
 
-reduces_same : (xs : List Fraction) → All Reduced xs → map reduce_of xs ≡ xs
+reduces_same : (xs : List Fraction) → AllByRecursion Reduced xs → map reduce_of xs ≡ xs
 reduces_same [] h = refl
 reduces_same (x ∷ xs) h = let e = reduce_same x h.0 in let k = reduces_same xs h.1 in λ i. e i ∷ k i
 
-keeps_all : (p : Fraction → Bool) (xs : List Fraction) → All (λ x. p x ≡ true) xs → filter p xs ≡ xs
+keeps_all : (p : Fraction → Bool) (xs : List Fraction) → AllByRecursion (λ x. p x ≡ true) xs → filter p xs ≡ xs
 keeps_all p [] h = refl
 keeps_all p (x ∷ xs) h = cond-true (p x) (x ∷ filter p xs) (filter p xs) h.0 ∙ ap (λ (ys : List Fraction). x ∷ ys) (keeps_all p xs h.1)
 
 -- what is above all is put at the end
-put_last : (f : Fraction) (xs : List Fraction) → All (λ x. Lower x f) xs → puts f xs ≡ xs ++ f ∷ []
+put_last : (f : Fraction) (xs : List Fraction) → AllByRecursion (λ x. Lower x f) xs → puts f xs ≡ xs ++ f ∷ []
 put_last f [] h = refl
 put_last f (x ∷ xs) h =
     cond-true (lower x f) (x ∷ puts f xs) (cond (same x f) (x ∷ xs) (f ∷ x ∷ xs)) h.0 ∙ ap (λ (ys : List Fraction). x ∷ ys) (put_last f xs h.1)
 
 -- all of the first list are lower than all of the second
 abbrev Under : List Fraction → List Fraction → Type 0
-Under xs fs = All (λ f. All (λ x. Lower x f) xs) fs
+Under xs fs = AllByRecursion (λ f. AllByRecursion (λ x. Lower x f) xs) fs
 
-under_more : (f : Fraction) (xs fs : List Fraction) → Under xs fs → All (Lower f) fs → Under (xs ++ f ∷ []) fs
+under_more : (f : Fraction) (xs fs : List Fraction) → Under xs fs → AllByRecursion (Lower f) fs → Under (xs ++ f ∷ []) fs
 under_more f xs [] h g = tt
 under_more f xs (k ∷ fs) h g = (All-append (λ x. Lower x k) xs (f ∷ []) h.0 (g.0, tt), under_more f xs fs h.1 g.1)
 
@@ -86,7 +86,7 @@ required_same xs e =
     let start : over_integers xs ≡ xs = ap tidy_of above ∙ tidy_same xs s.rising in
     ap fold_of start ∙ sym (folds_to xs xs (done (no_join xs e) (no_strip xs e)))
   where
-    more_tests : (ys : List Fraction) → All More ys → All (λ f. ltb 1 f.p ≡ true) ys
+    more_tests : (ys : List Fraction) → AllByRecursion More ys → AllByRecursion (λ f. ltb 1 f.p ≡ true) ys
     more_tests [] h = tt
     more_tests (y ∷ ys) h = (lt-ltb 1 y.p h.0, more_tests ys h.1)
 
@@ -104,5 +104,5 @@ in_range_if f r =
     (and_from (ltb f.p (2 ^ 63)) (ltb 0 f.q && ltb f.q (2 ^ 63)) (lt-ltb f.p (2 ^ 63) r.p_high)
     (and_from (ltb 0 f.q) (ltb f.q (2 ^ 63)) (lt-ltb 0 f.q r.q_low) (lt-ltb f.q (2 ^ 63) r.q_high)))
 
-pub reduced_in_range : (xs : List Fraction) → All Reduced xs → are_in_range xs ≡ true
+pub reduced_in_range : (xs : List Fraction) → AllByRecursion Reduced xs → are_in_range xs ≡ true
 reduced_in_range xs h = in_every in_range xs (λ x i. in_range_if x (all_in Reduced xs h x i))

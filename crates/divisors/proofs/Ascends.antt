@@ -1,6 +1,6 @@
 -- A tidy row of reduced fractions is ascending, without repeats.
 use Rattle.std.proofs.Common.{◌≡◌, ℕ, suc, Bool, true, false, cond, ◌&&◌, eqb, ltb, ◌⊎◌, List, [], ◌∷◌, length, get_or, sym, refl, ap, ◌∙◌, subst, inl, inr, arith}
-use Rattle.std.specs.List.{insert, AllByRecursion as All}
+use Rattle.std.specs.List.{insert, AllByRecursion}
 use Rattle.std.proofs.lemmas.Bool.{and_parts, and_from, both_ways, cases_Bool, cond_both, eq-eqb, lt-ltb}
 use Rattle.std.proofs.lemmas.Bool.Decides.{nat_tests}
 use Rattle.divisors.specs.declared.fraction.Fraction.{Fraction}
@@ -53,7 +53,7 @@ higher x f r s h e = go (cases_Bool (lower f x))
     go (inr n) = absurd (both_ways (same x f) e (subst (λ (y : Fraction). same x y ≡ true) (lower_tie x f r s h n) (same_self x)))
 
 -- into an ascending row whose first is lower
-after : (f y : Fraction) (xs : List Fraction) → Reduced f → All Reduced xs → lower y f ≡ true → ascends (y ∷ xs) ≡ true → ascends (y ∷ puts f xs) ≡ true
+after : (f y : Fraction) (xs : List Fraction) → Reduced f → AllByRecursion Reduced xs → lower y f ≡ true → ascends (y ∷ xs) ≡ true → ascends (y ∷ puts f xs) ≡ true
 after f y [] r h l a = and_from (lower y f) true l refl
 after f y (x ∷ xs) r h l a =
     let u = and_parts (lower y x) (ascends (x ∷ xs)) a in
@@ -63,7 +63,7 @@ after f y (x ∷ xs) r h l a =
     cond_both (same x f) (x ∷ xs) (f ∷ x ∷ xs) (λ zs. ascends (y ∷ zs) ≡ true) (λ _. a)
     (λ e. and_from (lower y f) (lower f x && ascends (x ∷ xs)) l (and_from (lower f x) (ascends (x ∷ xs)) (higher x f h.0 r n e) u.1)))
 
-puts_ascends : (f : Fraction) (xs : List Fraction) → Reduced f → All Reduced xs → ascends xs ≡ true → ascends (puts f xs) ≡ true
+puts_ascends : (f : Fraction) (xs : List Fraction) → Reduced f → AllByRecursion Reduced xs → ascends xs ≡ true → ascends (puts f xs) ≡ true
 puts_ascends f [] r h a = refl
 puts_ascends f (x ∷ xs) r h a =
     cond_both (lower x f) (x ∷ puts f xs) (cond (same x f) (x ∷ xs) (f ∷ x ∷ xs)) (λ zs. ascends zs ≡ true) (λ t. after f x xs r h.1 t a)
@@ -71,16 +71,16 @@ puts_ascends f (x ∷ xs) r h a =
     cond_both (same x f) (x ∷ xs) (f ∷ x ∷ xs) (λ zs. ascends zs ≡ true) (λ _. a)
     (λ e. and_from (lower f x) (ascends (x ∷ xs)) (higher x f h.0 r n e) a))
 
-put_ascends : (f : Fraction) (xs : List Fraction) → Reduced f → All Reduced xs → ascends xs ≡ true → ascends (put f xs) ≡ true
+put_ascends : (f : Fraction) (xs : List Fraction) → Reduced f → AllByRecursion Reduced xs → ascends xs ≡ true → ascends (put f xs) ≡ true
 unfolding put
 put_ascends f xs r h a = subst (λ (ys : List Fraction). ascends ys ≡ true) (sym (put_is f xs)) (puts_ascends f xs r h a)
 
-all_puts : (fs xs : List Fraction) → All Reduced fs → All Reduced xs → ascends xs ≡ true → ascends (put_all fs xs) ≡ true
+all_puts : (fs xs : List Fraction) → AllByRecursion Reduced fs → AllByRecursion Reduced xs → ascends xs ≡ true → ascends (put_all fs xs) ≡ true
 all_puts [] xs h g a = a
 all_puts (f ∷ fs) xs h g a =
     all_puts fs (put f xs) h.1 (put_in Reduced f xs h.0 g) (put_ascends f xs h.0 g a)
 
-pub tidy_ascends : (xs : List Fraction) → All Reduced xs → ascends (tidy_of xs) ≡ true
+pub tidy_ascends : (xs : List Fraction) → AllByRecursion Reduced xs → ascends (tidy_of xs) ≡ true
 unfolding tidy_of
 tidy_ascends xs h = all_puts xs [] h tt refl
 
@@ -89,11 +89,11 @@ abbrev pub Lower : Fraction → Fraction → Type 0
 Lower a b = lower a b ≡ true
 
 -- what is above the first is above a lower one
-over_all : (y x : Fraction) (xs : List Fraction) → Reduced y → Reduced x → All Reduced xs → lower y x ≡ true → All (Lower x) xs → All (Lower y) xs
+over_all : (y x : Fraction) (xs : List Fraction) → Reduced y → Reduced x → AllByRecursion Reduced xs → lower y x ≡ true → AllByRecursion (Lower x) xs → AllByRecursion (Lower y) xs
 over_all y x [] r s h l a = tt
 over_all y x (z ∷ zs) r s h l a = (lower_trans y x z r s h.0 l a.0, over_all y x zs r s h.1 l a.1)
 
-pub ascends_pairs : (xs : List Fraction) → All Reduced xs → ascends xs ≡ true → Pairs Lower xs
+pub ascends_pairs : (xs : List Fraction) → AllByRecursion Reduced xs → ascends xs ≡ true → Pairs Lower xs
 ascends_pairs [] h a = tt
 ascends_pairs (x ∷ []) h a = (tt, tt)
 ascends_pairs (x ∷ y ∷ xs) h a =

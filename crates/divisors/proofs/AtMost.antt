@@ -1,6 +1,6 @@
 -- The order of rows is total, and only equal rows tie.
 use Rattle.std.proofs.Common.{◌≡◌, true, false, cond, ◌⊎◌, List, [], ◌∷◌, sym, refl, ◌∙◌, subst, inl, inr, ⊎_elim}
-use Rattle.std.specs.List.{AllByRecursion as All}
+use Rattle.std.specs.List.{AllByRecursion}
 use Rattle.std.proofs.lemmas.Bool.{cases_Bool, cond-true, cond-false, cond_both, false≢true, true≢false}
 use Rattle.divisors.specs.declared.fraction.Fraction.{Fraction}
 use Rattle.divisors.specs.Fractions.{Reduced, lower}
@@ -43,7 +43,7 @@ pub up_refl : (xs : List Fraction) → at_most xs xs ≡ true
 up_refl [] = refl
 up_refl (x ∷ xs) = by_rest x x xs xs refl (up_refl xs)
 
-pub up_trans : (xs ys zs : List Fraction) → All Reduced xs → All Reduced ys → All Reduced zs → at_most xs ys ≡ true → at_most ys zs ≡ true → at_most xs zs ≡ true
+pub up_trans : (xs ys zs : List Fraction) → AllByRecursion Reduced xs → AllByRecursion Reduced ys → AllByRecursion Reduced zs → at_most xs ys ≡ true → at_most ys zs ≡ true → at_most xs zs ≡ true
 up_trans [] ys zs a b c h i = refl
 up_trans (x ∷ xs) [] zs a b c h i = absurd (false≢true h)
 up_trans (x ∷ xs) (y ∷ ys) [] a b c h i = absurd (false≢true i)
@@ -58,7 +58,7 @@ up_trans (x ∷ xs) (y ∷ ys) (z ∷ zs) a b c h i =
     go (inr t) (inl u) ih = by_first x z xs zs (subst (λ (w : Fraction). lower w z ≡ true) (sym t.0) u)
     go (inr t) (inr u) ih = by_rest x z xs zs (t.0 ∙ u.0) (ih t.1 u.1)
 
-pub up_tie : (xs ys : List Fraction) → All Reduced xs → All Reduced ys → at_most xs ys ≡ true → at_most ys xs ≡ true → xs ≡ ys
+pub up_tie : (xs ys : List Fraction) → AllByRecursion Reduced xs → AllByRecursion Reduced ys → at_most xs ys ≡ true → at_most ys xs ≡ true → xs ≡ ys
 up_tie [] [] a b h i = refl
 up_tie [] (y ∷ ys) a b h i = absurd (false≢true i)
 up_tie (x ∷ xs) [] a b h i = absurd (false≢true h)

@@ -1,6 +1,6 @@
 -- Filling a row with written divisors, and taking it out.
 use Rattle.std.proofs.Common.{◌≡◌, ℕ, ◌+◌, ◌^◌, ◌<◌, ◌≤◌, true, cond, ◌&&◌, ltb, List, ◌∷◌, length, get_or, take, drop, set, sym, ap, ◌∙◌, subst, arith}
-use Rattle.std.specs.List.{AllByRecursion as All}
+use Rattle.std.specs.List.{AllByRecursion}
 use Rattle.std.proofs.lemmas.List.{at_drop_more, at_drop_all, drop-set-lt}
 use Rattle.std.proofs.lemmas.Bool.{and_parts, cond-true, cond-false, ltb-true, lt-ltb, le-ltb}
 use Rattle.divisors.specs.declared.fraction.Fraction.{Fraction}
@@ -59,5 +59,5 @@ in_range_lem f e =
       q_high = ltb-true f.q (2 ^ 63) c.1;
     }
 
-pub all_in_range : (ws : List Fraction) → are_in_range ws ≡ true → All InRange ws
+pub all_in_range : (ws : List Fraction) → are_in_range ws ≡ true → AllByRecursion InRange ws
 all_in_range ws e = in_all InRange ws (λ w i. in_range_lem w (every_in in_range ws e w i))

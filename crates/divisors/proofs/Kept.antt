@@ -2,7 +2,7 @@
 use Rattle.std.proofs.Common.{◌≡◌, ℕ, ◌*◌, ◌/◌, ◌≤◌, true, false, ltb, ◌↔◌, List, [], ◌∷◌, map, filter, sym, refl, ap, ◌∙◌, subst, div-le_self, arith}
 use Prim.Native.Nat.{◌∣◌}
 use native.Mathlib.Nat.{one-dvd}
-use Rattle.std.specs.List.{AllByRecursion as All}
+use Rattle.std.specs.List.{AllByRecursion}
 use Rattle.std.proofs.ByRecursion.{all_kept_by}
 use Rattle.std.proofs.lemmas.Bool.{ltb-true, ltb-false, lt-ltb, cond_both, cond-true}
 use Rattle.divisors.specs.declared.fraction.Fraction.{Fraction}
@@ -44,18 +44,18 @@ reduce_multiple f v r =
     let t = lowest_divides v f.p f.q (gcd_pos f.p f.q r.p_low) (parts_coprime f.p f.q r.p_low) in
     (λ m. t.0 (w.0 m), λ m. w.1 (t.1 m))
 
-reduce_all : (ws : List Fraction) → All InRange ws → All Reduced (map reduce_of ws)
+reduce_all : (ws : List Fraction) → AllByRecursion InRange ws → AllByRecursion Reduced (map reduce_of ws)
 reduce_all [] h = tt
 reduce_all (w ∷ ws) h = (reduce_reduced w h.0, reduce_all ws h.1)
 
-reduce_admits : (ws : List Fraction) (v : ℕ) → All InRange ws → (Multiples (map reduce_of ws) v) ↔ (Multiples ws v)
+reduce_admits : (ws : List Fraction) (v : ℕ) → AllByRecursion InRange ws → (Multiples (map reduce_of ws) v) ↔ (Multiples ws v)
 reduce_admits [] v h = (λ a. a, λ a. a)
 reduce_admits (w ∷ ws) v h =
     let u = reduce_multiple w v h.0 in
     let k = reduce_admits ws v h.1 in
     (λ a. (u.0 a.0, k.0 a.1), λ a. (u.1 a.0, k.1 a.1))
 
-reduce_spares : (ws : List Fraction) (v : ℕ) → All InRange ws → (NoMultiples (map reduce_of ws) v) ↔ (NoMultiples ws v)
+reduce_spares : (ws : List Fraction) (v : ℕ) → AllByRecursion InRange ws → (NoMultiples (map reduce_of ws) v) ↔ (NoMultiples ws v)
 reduce_spares [] v h = (λ a. a, λ a. a)
 reduce_spares (w ∷ ws) v h =
     let u = reduce_multiple w v h.0 in
@@ -73,22 +73,22 @@ unit_multiple f v r e =
 abbrev more : List Fraction → List Fraction
 more xs = filter (λ f. ltb 1 f.p) xs
 
-more_admits : (xs : List Fraction) (v : ℕ) → All Reduced xs → Multiples (more xs) v → Multiples xs v
+more_admits : (xs : List Fraction) (v : ℕ) → AllByRecursion Reduced xs → Multiples (more xs) v → Multiples xs v
 more_admits [] v h = λ a. a
 more_admits (x ∷ xs) v h =
     cond_both (ltb 1 x.p) (x ∷ more xs) (more xs) (λ l. Multiples l v → Multiples (x ∷ xs) v)
     (λ t a. (a.0, more_admits xs v h.1 a.1)) (λ n a. (unit_multiple x v h.0 n, more_admits xs v h.1 a))
 
-more_more : (xs : List Fraction) → All More (more xs)
+more_more : (xs : List Fraction) → AllByRecursion More (more xs)
 more_more [] = tt
 more_more (x ∷ xs) =
-    cond_both (ltb 1 x.p) (x ∷ more xs) (more xs) (All More) (λ t. (ltb-true 1 x.p t, more_more xs)) (λ _. more_more xs)
+    cond_both (ltb 1 x.p) (x ∷ more xs) (more xs) (AllByRecursion More) (λ t. (ltb-true 1 x.p t, more_more xs)) (λ _. more_more xs)
 
-more_reduced : (ws : List Fraction) → All InRange ws → All Reduced (lowest_above 1 ws)
+more_reduced : (ws : List Fraction) → AllByRecursion InRange ws → AllByRecursion Reduced (lowest_above 1 ws)
 more_reduced ws h = all_kept_by (λ f. ltb 1 f.p) Reduced (map reduce_of ws) (reduce_all ws h)
 
 -- the required list as it is kept
-pub required_settled : (ws : List Fraction) → All InRange ws → settled (required_of ws) ≡ true
+pub required_settled : (ws : List Fraction) → AllByRecursion InRange ws → settled (required_of ws) ≡ true
 unfolding required_of
 required_settled ws h =
     let xs = lowest_above 1 ws in
@@ -96,7 +96,7 @@ required_settled ws h =
     fold_settled (tidy_of xs) (fold_of (tidy_of xs)) (fold_is (tidy_of xs)) (tidy_in Reduced xs r) (tidy_in More xs (more_more (map reduce_of ws))) (tidy_ascends xs r)
 
 -- it admits exactly what the written divisors admit
-pub required_admits : (ws : List Fraction) (v : ℕ) → All InRange ws → (Multiples (required_of ws) v) ↔ (Multiples ws v)
+pub required_admits : (ws : List Fraction) (v : ℕ) → AllByRecursion InRange ws → (Multiples (required_of ws) v) ↔ (Multiples ws v)
 unfolding required_of
 required_admits ws v h =
     let M : Fraction → Type 0 = λ f. Multiple f v in
@@ -109,12 +109,12 @@ required_admits ws v h =
     )
 
 -- the barred list as it is kept
-pub barred_thinned : (ws : List Fraction) → All InRange ws → thinned (barred_of ws) ≡ true
+pub barred_thinned : (ws : List Fraction) → AllByRecursion InRange ws → thinned (barred_of ws) ≡ true
 unfolding barred_of
 barred_thinned ws h = let r = reduce_all ws h in thin_thinned (tidy_of (map reduce_of ws)) (tidy_in Reduced (map reduce_of ws) r) (tidy_ascends (map reduce_of ws) r)
 
 -- it spares exactly what the written divisors spare
-pub barred_spares : (ws : List Fraction) (v : ℕ) → All InRange ws → (NoMultiples (barred_of ws) v) ↔ (NoMultiples ws v)
+pub barred_spares : (ws : List Fraction) (v : ℕ) → AllByRecursion InRange ws → (NoMultiples (barred_of ws) v) ↔ (NoMultiples ws v)
 unfolding barred_of
 barred_spares ws v h =
     let N : Fraction → Type 0 = λ f. Multiple f v → ⊥ in
@@ -124,7 +124,7 @@ barred_spares ws v h =
     (λ s. w.0 (tidy_out N rs (t.0 s)), λ s. t.1 (tidy_in N rs (w.1 s)))
 
 -- every numerator in lowest terms is above 0
-pub positive : (ws : List Fraction) → All InRange ws → lowest_above 0 ws ≡ map reduce_of ws
+pub positive : (ws : List Fraction) → AllByRecursion InRange ws → lowest_above 0 ws ≡ map reduce_of ws
 positive [] h = refl
 positive (w ∷ ws) h =
     cond-true (ltb 0 (reduce_of w).p) (reduce_of w ∷ lowest_above 0 ws) (lowest_above 0 ws) (lt-ltb 0 (reduce_of w).p (reduce_reduced w h.0).p_low) ∙

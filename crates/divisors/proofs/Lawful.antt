@@ -1,5 +1,5 @@
 -- The laws of kept lists, gathered, and the worked folds, computed.
-use Rattle.std.proofs.Common.{◌*◌, ◌%◌, ◌⊎◌, nat_abs, refl, inl, inr, ⊎_elim}
+use Rattle.std.proofs.Common.{◌*◌, ◌%◌, nat_abs, refl, inl, inr, ⊎_elim}
 use native.Mathlib.Nat.{dvd_of_mod-eq-zero, mod-eq-zero_of_dvd}
 use Rattle.std.proofs.lemmas.Bool.{cases_Bool, eq-eqb, eqb-true}
 use Rattle.divisors.specs.Folding.{fold_in, fold_of}

@@ -1,6 +1,6 @@
 -- What the makers promise: lowest terms, folded lists, thinned lists, of all integers.
 use Rattle.std.proofs.Common.{◌≡◌, true, ◌↔◌, List, nat_abs, sym, refl, ap, ◌∙◌, subst}
-use Rattle.std.specs.List.{AllByRecursion as All}
+use Rattle.std.specs.List.{AllByRecursion}
 use Rattle.divisors.specs.declared.fraction.Fraction.{Fraction}
 use Rattle.divisors.specs.Dividing.{thinned, thin_of}
 use Rattle.divisors.specs.Folding.{FoldsTo, NoJoin, NoStrip, done, joined, stripped}
@@ -47,7 +47,7 @@ fold_of_lem ws xs e f =
           let a = admits_of (required_of ws) v in
           let b = admits_of ws v in
           let w = required_admits ws (nat_abs v) (all_in_range ws e) in
-          subst (λ (ys : List Fraction). (All (λ f. MultipleOf f v) ys) ↔ (All (λ f. MultipleOf f v) ws)) (sym value)
+          subst (λ (ys : List Fraction). (AllByRecursion (λ f. MultipleOf f v) ys) ↔ (AllByRecursion (λ f. MultipleOf f v) ws)) (sym value)
           (λ m. b.1 (w.0 (a.0 m)), λ m. a.1 (w.1 (b.0 m)));
     }
 
@@ -63,7 +63,7 @@ thin_of_lem ws xs e f =
           let a = spares_of (barred_of ws) v in
           let b = spares_of ws v in
           let w = barred_spares ws (nat_abs v) h in
-          subst (λ (ys : List Fraction). (All (λ f. MultipleOf f v → ⊥) ys) ↔ (All (λ f. MultipleOf f v → ⊥) ws)) (sym value)
+          subst (λ (ys : List Fraction). (AllByRecursion (λ f. MultipleOf f v → ⊥) ys) ↔ (AllByRecursion (λ f. MultipleOf f v → ⊥) ws)) (sym value)
           (λ m. b.1 (w.0 (a.0 m)), λ m. a.1 (w.1 (b.0 m)));
     }
 

@@ -1,6 +1,6 @@
 -- Members of a row, and tests over a row.
-use Rattle.std.proofs.Common.{◌≡◌, ℕ, suc, ◌<◌, Bool, true, false, ◌⊎◌, List, [], ◌∷◌, length, get_or, filter, sym, refl, ap, ◌∙◌, subst, inl, inr, arith}
-use Rattle.std.specs.List.{AllByRecursion as All}
+use Rattle.std.proofs.Common.{◌≡◌, ℕ, suc, ◌<◌, Bool, true, ◌⊎◌, List, [], ◌∷◌, length, get_or, filter, sym, refl, ap, ◌∙◌, subst, inl, inr, arith}
+use Rattle.std.specs.List.{AllByRecursion}
 use Rattle.std.proofs.lemmas.Bool.{and_parts, and_from, or_cases, or_left, or_right, both_ways, false≢true, cond_both}
 use Rattle.divisors.specs.declared.fraction.Fraction.{Fraction}
 use Rattle.divisors.specs.Fractions.{Multiple, none}
@@ -8,11 +8,11 @@ use Rattle.divisors.specs.Lists.{every, some}
 
 -- a whole number is a multiple of each
 abbrev pub Multiples : List Fraction → ℕ → Type 0
-Multiples xs n = All (λ f. Multiple f n) xs
+Multiples xs n = AllByRecursion (λ f. Multiple f n) xs
 
 -- a whole number is a multiple of none
 abbrev pub NoMultiples : List Fraction → ℕ → Type 0
-NoMultiples xs n = All (λ f. Multiple f n → ⊥) xs
+NoMultiples xs n = AllByRecursion (λ f. Multiple f n → ⊥) xs
 
 abbrev pub In : Fraction → List Fraction → Type 0
 In x [] = ⊥
@@ -21,14 +21,14 @@ In x (y ∷ ys) = (x ≡ y) ⊎ In x ys
 -- R from each to each later one
 abbrev pub Pairs : (Fraction → Fraction → Type 0) → List Fraction → Type 0
 Pairs R [] = Unit {0}
-Pairs R (x ∷ xs) = All (R x) xs × Pairs R xs
+Pairs R (x ∷ xs) = AllByRecursion (R x) xs × Pairs R xs
 
-pub all_in : (P : Fraction → Type 0) (xs : List Fraction) → All P xs → (x : Fraction) → In x xs → P x
+pub all_in : (P : Fraction → Type 0) (xs : List Fraction) → AllByRecursion P xs → (x : Fraction) → In x xs → P x
 all_in P [] h x i = absurd i
 all_in P (y ∷ ys) h x (inl e) = subst P (sym e) h.0
 all_in P (y ∷ ys) h x (inr i) = all_in P ys h.1 x i
 
-pub in_all : (P : Fraction → Type 0) (xs : List Fraction) → ((x : Fraction) → In x xs → P x) → All P xs
+pub in_all : (P : Fraction → Type 0) (xs : List Fraction) → ((x : Fraction) → In x xs → P x) → AllByRecursion P xs
 in_all P [] f = tt
 in_all P (y ∷ ys) f = (f y (inl refl), in_all P ys (λ x i. f x (inr i)))
 
@@ -91,7 +91,7 @@ pairs_unique R irr asym (x ∷ xs) (y ∷ ys) h i f g =
     left e z j (inr b) = b
 
 -- what a filter keeps
-pub kept_pairs : (R : Fraction → Fraction → Type 0) (p : Fraction → Bool) (xs : List Fraction) → ((P : Fraction → Type 0) (ys : List Fraction) → All P ys → All P (filter p ys)) → Pairs R xs → Pairs R (filter p xs)
+pub kept_pairs : (R : Fraction → Fraction → Type 0) (p : Fraction → Bool) (xs : List Fraction) → ((P : Fraction → Type 0) (ys : List Fraction) → AllByRecursion P ys → AllByRecursion P (filter p ys)) → Pairs R xs → Pairs R (filter p xs)
 kept_pairs R p [] a h = tt
 kept_pairs R p (x ∷ xs) a h =
     cond_both (p x) (x ∷ filter p xs) (filter p xs) (Pairs R) (λ _. (a (R x) xs h.0, kept_pairs R p xs a h.1)) (λ _. kept_pairs R p xs a h.1)

@@ -1,7 +1,7 @@
 -- What the test of a folded row tells.
 use Rattle.std.proofs.Common.{◌≡◌, ◌^◌, true, ◌&&◌, eqb, ltb, List, [], ◌∷◌, refl}
 use Rattle.std.proofs.lemmas.Bool.{and_parts, and_from, ltb-true, eqb-true, lt-ltb, eq-eqb}
-use Rattle.std.specs.List.{AllByRecursion as All}
+use Rattle.std.specs.List.{AllByRecursion}
 use Rattle.divisors.specs.declared.fraction.Fraction.{Fraction}
 use Rattle.divisors.specs.Fractions.{Reduced, is_reduced}
 use Rattle.divisors.specs.Settled.{are_reduced}
@@ -21,7 +21,7 @@ reduced_if f e =
       coprime = eqb-true (gcd_of f.p f.q) 1 d.1;
     }
 
-pub all_reduced : (xs : List Fraction) → are_reduced xs ≡ true → All Reduced xs
+pub all_reduced : (xs : List Fraction) → are_reduced xs ≡ true → AllByRecursion Reduced xs
 all_reduced [] e = tt
 all_reduced (x ∷ xs) e = let u = and_parts (is_reduced x) (are_reduced xs) e in (reduced_if x u.0, all_reduced xs u.1)
 
@@ -32,6 +32,6 @@ if_reduced f r =
     (and_from (ltb 0 f.q) (ltb f.q (2 ^ 63) && eqb (gcd_of f.p f.q) 1) (lt-ltb 0 f.q r.q_low)
     (and_from (ltb f.q (2 ^ 63)) (eqb (gcd_of f.p f.q) 1) (lt-ltb f.q (2 ^ 63) r.q_high) (eq-eqb (gcd_of f.p f.q) 1 r.coprime))))
 
-pub reduced_all : (xs : List Fraction) → All Reduced xs → are_reduced xs ≡ true
+pub reduced_all : (xs : List Fraction) → AllByRecursion Reduced xs → are_reduced xs ≡ true
 reduced_all [] h = refl
 reduced_all (x ∷ xs) h = and_from (is_reduced x) (are_reduced xs) (if_reduced x h.0) (reduced_all xs h.1)

@@ -1,8 +1,8 @@
 -- What a fold ends with is settled; no one of a settled row divides another.
-use Rattle.std.proofs.Common.{◌≡◌, ℕ, suc, ◌*◌, ◌<◌, ◌≤◌, true, not, ◌&&◌, ltb, ◌⊎◌, List, [], ◌∷◌, length, get_or, take, drop, set, is_some, Some, None, Option, sym, refl, ap, ◌∙◌, subst, ⊎_elim, mul-one, arith}
+use Rattle.std.proofs.Common.{◌≡◌, ℕ, suc, ◌*◌, ◌<◌, ◌≤◌, true, not, ◌&&◌, ltb, List, [], ◌∷◌, length, get_or, take, drop, set, is_some, Some, None, Option, sym, refl, ap, ◌∙◌, subst, ⊎_elim, mul-one, arith}
 use Prim.Native.Nat.{◌∣◌}
 use native.Mathlib.Nat.{le_of_dvd, dvd_of_mod-eq-zero}
-use Rattle.std.specs.List.{remove, AllByRecursion as All}
+use Rattle.std.specs.List.{remove, AllByRecursion}
 use Rattle.std.proofs.ByRecursion.{All-append, All-take, All-drop, All-set, All-get_or}
 use Rattle.std.proofs.lemmas.Bool.{and_parts, and_from, ltb-true, lt-ltb, cases_lt, cases_order}
 use Rattle.divisors.specs.declared.folding.Pair.{Pair}
@@ -54,7 +54,7 @@ stripless_if (x ∷ xs) n =
     (absent (strip_by (get_or xs k none) x) (n (suc k) 0 (omega arith) (omega arith) (λ e. omega arith)))))
     (stripless_if xs (λ i k a b d. n (suc i) (suc k) (omega arith) (omega arith) (λ e. d (omega arith))))
 
-at : (P : Fraction → Type 0) (xs : List Fraction) → All P xs → (i : ℕ) → i < length xs → P (get_or xs i none)
+at : (P : Fraction → Type 0) (xs : List Fraction) → AllByRecursion P xs → (i : ℕ) → i < length xs → P (get_or xs i none)
 at P xs h i l = All-get_or P xs i none l h
 
 -- a join's numerator is above 1
@@ -80,7 +80,7 @@ strip_more a b f ra rb e no-dvd =
     absurd (no-dvd (subst (λ (x : ℕ). x ∣ b.p) (sym whole) (dvd_of_mod-eq-zero s t.divides))))
     (cases_lt 1 f.p)
 
-joined_more : (xs : List Fraction) (t : Pair) → All Reduced xs → All More xs → FirstJoin xs t → All More (joined_by t xs)
+joined_more : (xs : List Fraction) (t : Pair) → AllByRecursion Reduced xs → AllByRecursion More xs → FirstJoin xs t → AllByRecursion More (joined_by t xs)
 joined_more xs t h m f =
     let j = join_more (get_or xs t.left none) (get_or xs t.right none) t.join (at Reduced xs h t.left (omega (arith, f.ordered, f.within))) (at Reduced xs h t.right f.within) (at More xs m t.left (omega (arith, f.ordered, f.within))) f.joins in
     let ys = set xs t.left t.join in
@@ -88,7 +88,7 @@ joined_more xs t h m f =
     tidy_in More (remove ys t.right)
     (All-append More (take t.right ys) (drop (suc t.right) ys) (All-take More t.right ys s) (All-drop More (suc t.right) ys s))
 
-stripped_more : (xs : List Fraction) (t : Strip) → All Reduced xs → All More xs → NoJoin xs → FirstStrip xs t → All More (stripped_by t xs)
+stripped_more : (xs : List Fraction) (t : Strip) → AllByRecursion Reduced xs → AllByRecursion More xs → NoJoin xs → FirstStrip xs t → AllByRecursion More (stripped_by t xs)
 stripped_more xs t h m n f =
     let a = get_or xs t.at none in
     let b = get_or xs t.by none in
@@ -106,7 +106,7 @@ stripped_more xs t h m n f =
     m)
 
 -- what a row of reduced fractions with numerators above 1 folds to
-pub fold_settled : (xs ys : List Fraction) → FoldsTo xs ys → All Reduced xs → All More xs → ascends xs ≡ true → settled ys ≡ true
+pub fold_settled : (xs ys : List Fraction) → FoldsTo xs ys → AllByRecursion Reduced xs → AllByRecursion More xs → ascends xs ≡ true → settled ys ≡ true
 fold_settled xs ys (done n m) h g a =
     and_from (are_reduced xs) (are_more xs && (ascends xs && (joinless xs && stripless xs))) (reduced_all xs h)
     (and_from (are_more xs) (ascends xs && (joinless xs && stripless xs)) (in_every (λ f. ltb 1 f.p) xs (λ x i. lt-ltb 1 x.p (all_in More xs g x i)))
@@ -120,8 +120,8 @@ fold_settled xs ys (stripped t n f r) h g a =
 
 -- the parts of the test
 pub record Settled (xs : List Fraction) : Type 0 where
-  pub reduced : All Reduced xs
-  pub more : All More xs
+  pub reduced : AllByRecursion Reduced xs
+  pub more : AllByRecursion More xs
   pub rising : Pairs Lower xs
   pub apart : Pairs (λ a b. join_of a b ≡ None) xs
   pub firm : Pairs (λ a b. (strip_by a b ≡ None) × (strip_by b a ≡ None)) xs

@@ -3,7 +3,7 @@ use Rattle.std.proofs.Common.{◌≡◌, ℕ, zero, suc, ◌*◌, ◌/◌, ◌�
 use Prim.Native.Nat.{◌∣◌}
 use native.Mathlib.Nat.{dvd-mul_left, div-mul_cancel}
 use lib.IntN.{pos-*ℤ-pos, negsuc-*ℤ-pos}
-use Rattle.std.specs.List.{AllByRecursion as All}
+use Rattle.std.specs.List.{AllByRecursion}
 use Rattle.divisors.specs.declared.fraction.Fraction.{Fraction}
 use Rattle.divisors.specs.Fractions.{Multiple, MultipleOf}
 use Rattle.divisors.proofs.Members.{Multiples, NoMultiples}
@@ -36,14 +36,14 @@ multiple_of f v = (
     back (negsuc n) d =
         (neg_ℤ (pos (suc n * f.q / f.p)), negsuc-*ℤ-pos n f.q ∙ opposite (suc n * f.q) (suc n * f.q / f.p) f.p (sym (div-mul_cancel f.p d)))
 
-pub admits_of : (ws : List Fraction) (v : ℤ) → (All (λ f. MultipleOf f v) ws) ↔ (Multiples ws (nat_abs v))
+pub admits_of : (ws : List Fraction) (v : ℤ) → (AllByRecursion (λ f. MultipleOf f v) ws) ↔ (Multiples ws (nat_abs v))
 admits_of [] v = (λ a. a, λ a. a)
 admits_of (w ∷ ws) v =
     let u = multiple_of w v in
     let k = admits_of ws v in
     (λ a. (u.0 a.0, k.0 a.1), λ a. (u.1 a.0, k.1 a.1))
 
-pub spares_of : (ws : List Fraction) (v : ℤ) → (All (λ f. MultipleOf f v → ⊥) ws) ↔ (NoMultiples ws (nat_abs v))
+pub spares_of : (ws : List Fraction) (v : ℤ) → (AllByRecursion (λ f. MultipleOf f v → ⊥) ws) ↔ (NoMultiples ws (nat_abs v))
 spares_of [] v = (λ a. a, λ a. a)
 spares_of (w ∷ ws) v =
     let u = multiple_of w v in

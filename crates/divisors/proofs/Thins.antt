@@ -1,7 +1,7 @@
 -- A thinned row: no one divides another, and it bars what the row bars.
 use Rattle.std.proofs.Common.{◌≡◌, ℕ, zero, suc, ◌+◌, ◌-◌, ◌^◌, ◌<◌, ◌≤◌, Bool, true, false, not, ◌&&◌, eqb, ◌⊎◌, ◌↔◌, List, filter, inl, inr, ⊎_elim, arith}
 use native.Mathlib.Nat.{le_of_dvd}
-use Rattle.std.specs.List.{AllByRecursion as All}
+use Rattle.std.specs.List.{AllByRecursion}
 use Rattle.std.proofs.ByRecursion.{all_kept_by}
 use Rattle.std.proofs.lemmas.Bool.{and_parts, and_from, eq-eqb, cases_Bool, cases_eq, both_ways, not-true, not_from_false}
 use Rattle.divisors.specs.declared.fraction.Fraction.{Fraction}
@@ -24,10 +24,10 @@ only_itself xs x y i n d =
     (cases_Bool (same x y))
 
 pub record Thinned (xs : List Fraction) : Type 0 where
-  pub reduced : All Reduced xs
+  pub reduced : AllByRecursion Reduced xs
   pub rising : Pairs Lower xs
   pub clear : Clear xs
-  pub undivided : All (λ x. not (divided xs x) ≡ true) xs
+  pub undivided : AllByRecursion (λ x. not (divided xs x) ≡ true) xs
 
 pub thinned_parts : (xs : List Fraction) → thinned xs ≡ true → Thinned xs
 thinned_parts xs e =
@@ -42,7 +42,7 @@ thinned_parts xs e =
     }
 
 -- the thinned row is reduced, ascending, and no one divides another
-pub thin_thinned : (xs : List Fraction) → All Reduced xs → ascends xs ≡ true → thinned (thin_of xs) ≡ true
+pub thin_thinned : (xs : List Fraction) → AllByRecursion Reduced xs → ascends xs ≡ true → thinned (thin_of xs) ≡ true
 unfolding thin_of
 thin_thinned xs h a =
     let p : Fraction → Bool = λ x. not (divided xs x) in
@@ -76,7 +76,7 @@ falls x y r s d n =
     (λ e. omega (arith, s.q_high)) (cases_eq y.p x.p)
 
 -- one that is kept divides each
-top : (n : ℕ) (xs : List Fraction) → All Reduced xs → (x : Fraction) → In x xs → rank x < n → (m : Fraction) × In m (thin_of xs) × (divides m x ≡ true)
+top : (n : ℕ) (xs : List Fraction) → AllByRecursion Reduced xs → (x : Fraction) → In x xs → rank x < n → (m : Fraction) × In m (thin_of xs) × (divides m x ≡ true)
 unfolding thin_of
 top zero xs h x i l = absurd (omega arith)
 top (suc n) xs h x i l = go (cases_Bool (divided xs x)) (top n xs h)
@@ -96,12 +96,12 @@ top (suc n) xs h x i l = go (cases_Bool (divided xs x)) (top n xs h)
         let k = ih w.0 w.1 (omega (arith, falls x w.0 r s u.0 (not-true (same w.0 x) u.1))) in
         (k.0, k.1, divides_trans k.0 w.0 x (all_in Reduced xs h k.0 (in_kept (λ z. not (divided xs z)) xs k.0 k.1).0) r k.2 u.0)
 
-thin_all : (P : Fraction → Type 0) (xs : List Fraction) → All P xs → All P (thin_of xs)
+thin_all : (P : Fraction → Type 0) (xs : List Fraction) → AllByRecursion P xs → AllByRecursion P (thin_of xs)
 unfolding thin_of
 thin_all P xs h = all_kept_by (λ x. not (divided xs x)) P xs h
 
 -- what the thinned row spares, the row spares
-pub thin_spares : (xs : List Fraction) (v : ℕ) → All Reduced xs → (NoMultiples (thin_of xs) v) ↔ (NoMultiples xs v)
+pub thin_spares : (xs : List Fraction) (v : ℕ) → AllByRecursion Reduced xs → (NoMultiples (thin_of xs) v) ↔ (NoMultiples xs v)
 thin_spares xs v h = (
   λ s.
       in_all (λ f. Multiple f v → ⊥) xs

@@ -1,6 +1,6 @@
 -- A tidy row: what holds of its fractions, and its weight.
-use Rattle.std.proofs.Common.{◌≡◌, ℕ, suc, ◌+◌, ◌-◌, ◌<◌, ◌≤◌, Bool, true, false, eqb, ltb, List, [], ◌∷◌, ◌++◌, length, get_or, take, drop, set, MatchBool, sym, ap, subst, arith}
-use Rattle.std.specs.List.{insert, remove, AllByRecursion as All}
+use Rattle.std.proofs.Common.{◌≡◌, ℕ, suc, ◌+◌, ◌<◌, ◌≤◌, Bool, true, false, eqb, ltb, List, [], ◌∷◌, ◌++◌, length, get_or, take, drop, set, MatchBool, sym, ap, subst, arith}
+use Rattle.std.specs.List.{insert, remove, AllByRecursion}
 use Rattle.std.proofs.lemmas.List.{take-append-drop, length-set}
 use Rattle.std.proofs.ByRecursion.{All-append, All-take, All-drop, All-get_or}
 use Rattle.std.proofs.lemmas.List.Sums.{sum_by-append, sum_by-cons, sum_by-take-drop, sum_by-set, sum_by-drop_more}
@@ -14,7 +14,7 @@ use Rattle.divisors.specs.Lists.{place_of, put, put_all, stands, tidy_of}
 use Rattle.divisors.proofs.Joins.{join_parts}
 use Rattle.divisors.proofs.Strips.{strip_less}
 
-all_parts : (P : Fraction → Type 0) (xs ys : List Fraction) → All P (xs ++ ys) → All P xs × All P ys
+all_parts : (P : Fraction → Type 0) (xs ys : List Fraction) → AllByRecursion P (xs ++ ys) → AllByRecursion P xs × AllByRecursion P ys
 all_parts P [] ys h = (tt, h)
 all_parts P (x ∷ xs) ys h = let t = all_parts P xs ys h.1 in ((h.0, t.0), t.1)
 
@@ -25,39 +25,39 @@ same_eq a b e =
     let q = eqb-true a.q b.q t.1 in
     λ i. record { p = p i; q = q i }
 
-pub put_in : (P : Fraction → Type 0) (f : Fraction) (xs : List Fraction) → P f → All P xs → All P (put f xs)
+pub put_in : (P : Fraction → Type 0) (f : Fraction) (xs : List Fraction) → P f → AllByRecursion P xs → AllByRecursion P (put f xs)
 unfolding put
 put_in P f xs h g =
-    cond_both (stands f xs) xs (insert xs (place_of f xs) f) (All P) (λ _. g)
+    cond_both (stands f xs) xs (insert xs (place_of f xs) f) (AllByRecursion P) (λ _. g)
     (λ _. All-append P (take (place_of f xs) xs) (f ∷ drop (place_of f xs) xs) (All-take P (place_of f xs) xs g) (h, All-drop P (place_of f xs) xs g))
 
-pub put_out : (P : Fraction → Type 0) (f : Fraction) (xs : List Fraction) → All P (put f xs) → P f × All P xs
+pub put_out : (P : Fraction → Type 0) (f : Fraction) (xs : List Fraction) → AllByRecursion P (put f xs) → P f × AllByRecursion P xs
 unfolding put
 put_out P f xs =
-    cond_both (stands f xs) xs (insert xs (place_of f xs) f) (λ ys. All P ys → P f × All P xs)
+    cond_both (stands f xs) xs (insert xs (place_of f xs) f) (λ ys. AllByRecursion P ys → P f × AllByRecursion P xs)
     (λ e h.
     let t = and_parts (ltb (place_of f xs) (length xs)) (same (get_or xs (place_of f xs) none) f) e in
     (subst P (same_eq (get_or xs (place_of f xs) none) f t.1) (All-get_or P xs (place_of f xs) none (ltb-true (place_of f xs) (length xs) t.0) h), h))
     (λ e h.
     let t = all_parts P (take (place_of f xs) xs) (f ∷ drop (place_of f xs) xs) h in
-    (t.1.0, subst (All P) (take-append-drop (place_of f xs) xs) (All-append P (take (place_of f xs) xs) (drop (place_of f xs) xs) t.0 t.1.1)))
+    (t.1.0, subst (AllByRecursion P) (take-append-drop (place_of f xs) xs) (All-append P (take (place_of f xs) xs) (drop (place_of f xs) xs) t.0 t.1.1)))
 
-puts_in : (P : Fraction → Type 0) (fs xs : List Fraction) → All P fs → All P xs → All P (put_all fs xs)
+puts_in : (P : Fraction → Type 0) (fs xs : List Fraction) → AllByRecursion P fs → AllByRecursion P xs → AllByRecursion P (put_all fs xs)
 puts_in P [] xs h g = g
 puts_in P (f ∷ fs) xs h g = puts_in P fs (put f xs) h.1 (put_in P f xs h.0 g)
 
-puts_out : (P : Fraction → Type 0) (fs xs : List Fraction) → All P (put_all fs xs) → All P fs × All P xs
+puts_out : (P : Fraction → Type 0) (fs xs : List Fraction) → AllByRecursion P (put_all fs xs) → AllByRecursion P fs × AllByRecursion P xs
 puts_out P [] xs h = (tt, h)
 puts_out P (f ∷ fs) xs h =
     let t = puts_out P fs (put f xs) h in
     let u = put_out P f xs t.1 in
     ((u.0, t.0), u.1)
 
-pub tidy_in : (P : Fraction → Type 0) (xs : List Fraction) → All P xs → All P (tidy_of xs)
+pub tidy_in : (P : Fraction → Type 0) (xs : List Fraction) → AllByRecursion P xs → AllByRecursion P (tidy_of xs)
 unfolding tidy_of
 tidy_in P xs h = puts_in P xs [] h tt
 
-pub tidy_out : (P : Fraction → Type 0) (xs : List Fraction) → All P (tidy_of xs) → All P xs
+pub tidy_out : (P : Fraction → Type 0) (xs : List Fraction) → AllByRecursion P (tidy_of xs) → AllByRecursion P xs
 unfolding tidy_of
 tidy_out P xs h = (puts_out P xs [] h).0
 

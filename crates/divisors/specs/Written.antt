@@ -1,6 +1,6 @@
 -- From divisors as written to the lists that are kept, and what is refused.
 use Rattle.std.specs.Prelude.{◌≡◌, ℕ, Bool, cond, ◌&&◌, ◌↔◌, List, map, length, ℤ, Some, None, Ok, Err, filter, Option, Result, nat_le, nat_lt}
-use Rattle.std.specs.List.{AllByRecursion as All}
+use Rattle.std.specs.List.{AllByRecursion}
 use Rattle.divisors.specs.declared.fraction.Fraction.{Fraction}
 use Rattle.divisors.specs.declared.refusal.Refusal.{Refusal}
 use Rattle.divisors.specs.declared.refusal.Refusal.TheVariants.{OutOfRange, TooMany}
@@ -48,11 +48,11 @@ barred_of ws = thin_of (tidy_of (map reduce_of ws))
 
 -- an integer is a multiple of each
 abbrev pub Admits : List Fraction → ℤ → Type 0
-Admits xs v = All (λ f. MultipleOf f v) xs
+Admits xs v = AllByRecursion (λ f. MultipleOf f v) xs
 
 -- an integer is a multiple of none
 abbrev pub Spares : List Fraction → ℤ → Type 0
-Spares xs v = All (λ f. MultipleOf f v → ⊥) xs
+Spares xs v = AllByRecursion (λ f. MultipleOf f v → ⊥) xs
 
 -- xs is the folded list of the divisors ws as written
 pub record FoldOf (ws xs : List Fraction) : Type 0 where

@@ -8,14 +8,14 @@ use Rattle.notation.proofs.between_commas.Goals as goal
 pub loop-f-init : goal.loop-f-init
 loop-f-init c = ap (λ (xs : List Fraction). option_map (λ (fs : List Fraction). xs ++ fs) (lists c.args.text.now)) c.new-list.ensures.items ∙ mapped_same (lists c.args.text.now)
 
-pub returns-in-default : goal.returns-in-default
-returns-in-default c =
+pub returns-in_default : goal.returns-in_default
+returns-in_default c =
     no_part c.loop-f.rest.now (vec_items c.loop-f.list) (lists c.args.text.now) c.loop-f.invariant c.find-i.result c.find-i.ensures.value
-    (c.in-default.ensures ∙ ap divisor_of c.front.ensures)
+    (c.in_default.ensures ∙ ap divisor_of c.front.ensures)
 
 pub returns-then-i-rest : goal.returns-then-i-rest
 returns-then-i-rest c =
-    ap (λ (xs : List Fraction). Some xs) c.in-ok-push.ensures.items ∙
+    ap (λ (xs : List Fraction). Some xs) c.in_ok-push.ensures.items ∙
     last_part c.loop-f.rest.now (vec_items c.loop-f.list) (lists c.args.text.now) c.loop-f.invariant c.find-i.result c.find-i.ensures.value
     c.in-Some.f (c.in-Some.ensures ∙ ap divisor_of c.front.ensures) c.if-i-rest.true
 
@@ -25,7 +25,7 @@ loop-f-preserved c =
     let next =
     next_part rest (vec_items c.loop-f.list) (lists c.args.text.now) c.loop-f.invariant c.find-i.result c.find-i.ensures.value
     c.in-Some.f (c.in-Some.ensures ∙ ap divisor_of c.front.ensures) c.if-i-rest.false in
-    subst (λ (xs : List Fraction). option_map (λ (fs : List Fraction). xs ++ fs) (lists c.behind-rest.result.now) ≡ lists c.args.text.now) (sym c.in-ok-push.ensures.items)
+    subst (λ (xs : List Fraction). option_map (λ (fs : List Fraction). xs ++ fs) (lists c.behind-rest.result.now) ≡ lists c.args.text.now) (sym c.in_ok-push.ensures.items)
     (subst (λ (bs : List ℕ). option_map (λ (fs : List Fraction). (vec_items c.loop-f.list ++ c.in-Some.f ∷ []) ++ fs) (lists bs) ≡ lists c.args.text.now) (sym c.behind-rest.ensures) next)
 
 pub loop-f-smaller : goal.loop-f-smaller

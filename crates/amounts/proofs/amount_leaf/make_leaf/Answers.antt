@@ -14,19 +14,19 @@ pub returns : goal.returns
 returns c =
     let ws = c.args.required.now in
     let us = c.args.barred.now in
-    let b = c.in-ok-bounds.bounds in
-    let a = c.leaf-of.result in
-    let none = not_refused (refusal_of_both ws us) c.in-ok-check-divisors.ensures in
-    let w = window_is c.args.minimum c.args.maximum b c.in-ok-bounds.ensures in
+    let b = c.in_ok-bounds.bounds in
+    let a = c.leaf_of.result in
+    let none = not_refused (refusal_of_both ws us) c.in_ok-check_divisors.ensures in
+    let w = window_is c.args.minimum c.args.maximum b c.in_ok-bounds.ensures in
     let leaf : Bounds ℤ → Result AmountLeaf Refused = λ x. Ok (leaf_of x.minimum x.maximum ws us) in
     record {
       value =
-          ap (λ (x : AmountLeaf). Ok x) c.leaf-of.ensures.value ∙
-          (ap (λ (r : Result (Bounds ℤ) Refused). then r leaf) c.in-ok-bounds.ensures ∙
+          ap (λ (x : AmountLeaf). Ok x) c.leaf_of.ensures.value ∙
+          (ap (λ (r : Result (Bounds ℤ) Refused). then r leaf) c.in_ok-bounds.ensures ∙
           sym (ap (λ (o : Option ℕ). after o (then (window_of c.args.minimum c.args.maximum) leaf)) none));
-      sound = c.leaf-of.ensures.sound w.window;
+      sound = c.leaf_of.ensures.sound w.window;
       means =
-          subst (λ (h : Option ℤ). Means (value_of c.args.minimum) h ws us a) w.high-is
-          (subst (λ (l : Option ℤ). Means l b.maximum ws us a) w.low_is c.leaf-of.ensures.means);
+          subst (λ (h : Option ℤ). Means (value_of c.args.minimum) h ws us a) w.high_is
+          (subst (λ (l : Option ℤ). Means l b.maximum ws us a) w.low_is c.leaf_of.ensures.means);
       worked = worked_leaves;
     }

@@ -6,4 +6,4 @@ use Rattle.amounts.proofs.grid.multiple_beyond.Goals.{then-over-lt0, else-over-l
 
 pub returns : goal.returns
 returns c =
-    elim c.if-over-lt0.branch [ then-over-lt0 w ↦ next_low c.args.step c.args.v _ _ c.requires (grind (arith, ints, to_z-of_z)) (grind (arith, ints, to_z-of_z)) c.checked-add.ensures | else-over-lt0 w ↦ next_high c.args.step c.args.v _ _ c.requires (grind (arith, ints, to_z-of_z)) (grind (arith, ints, to_z-of_z)) c.checked-add.ensures ]
+    elim c.if-over-lt0.branch [ then-over-lt0 w ↦ next_low c.args.step c.args.v _ _ c.requires (grind (arith, ints, to_z-of_z)) (grind (arith, ints, to_z-of_z)) c.checked_add.ensures | else-over-lt0 w ↦ next_high c.args.step c.args.v _ _ c.requires (grind (arith, ints, to_z-of_z)) (grind (arith, ints, to_z-of_z)) c.checked_add.ensures ]

@@ -5,8 +5,8 @@ use Rattle.amounts.specs.Text.{Wrote, more_text}
 use Rattle.amounts.proofs.Writes.{more_none, more_step, wrote_none, wrote_then}
 use Rattle.amounts.proofs.text.+put_more.Goals as goal
 
-pub returns-in-default : goal.returns-in-default
-returns-in-default t c =
+pub returns-in_default : goal.returns-in_default
+returns-in_default t c =
     let e = more_none c.args.fs.now (omega (arith, ltb-true)) in
     record { wrote = rw e (wrote_none c.args.buf.now c.args.at (omega arith)); short = omega arith }
 
@@ -19,8 +19,8 @@ returns t c =
     record {
       wrote =
           rw (more_step fs some)
-          (wrote_then c.put-byte-next.ensures
-          (wrote_then c.put-fraction-end.ensures.wrote
-          (subst (λ (gs : List Fraction). Wrote c.put-fraction-end.new.buf c.put-fraction-end.result (more_text gs) c.put-more.new.buf c.put-more.result) rest c.put-more.ensures.wrote)));
-      short = let n = c.put-byte-next.ensures.end in let f = c.put-fraction-end.ensures.short in let m = c.put-more.ensures.short in let l = ap length rest in omega arith;
+          (wrote_then c.put_byte-next.ensures
+          (wrote_then c.put_fraction-end.ensures.wrote
+          (subst (λ (gs : List Fraction). Wrote c.put_fraction-end.new.buf c.put_fraction-end.result (more_text gs) c.put_more.new.buf c.put_more.result) rest c.put_more.ensures.wrote)));
+      short = let n = c.put_byte-next.ensures.end in let f = c.put_fraction-end.ensures.short in let m = c.put_more.ensures.short in let l = ap length rest in omega arith;
     }

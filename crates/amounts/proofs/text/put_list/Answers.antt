@@ -14,7 +14,7 @@ returns c =
     record {
       wrote =
           rw (list_step fs some)
-          (wrote_then c.put-fraction-end.ensures.wrote
-          (subst (λ (gs : List Fraction). Wrote c.put-fraction-end.new.buf c.put-fraction-end.result (more_text gs) c.put-more.new.buf c.put-more.result) rest c.put-more.ensures.wrote));
-      short = let f = c.put-fraction-end.ensures.short in let m = c.put-more.ensures.short in let l = ap length rest in omega arith;
+          (wrote_then c.put_fraction-end.ensures.wrote
+          (subst (λ (gs : List Fraction). Wrote c.put_fraction-end.new.buf c.put_fraction-end.result (more_text gs) c.put_more.new.buf c.put_more.result) rest c.put_more.ensures.wrote));
+      short = let f = c.put_fraction-end.ensures.short in let m = c.put_more.ensures.short in let l = ap length rest in omega arith;
     }

@@ -4,11 +4,11 @@ use Rattle.divisors.proofs.Lawful.{barred_laws}
 use Rattle.divisors.proofs.Loops.{every_no, every_yes, every_end}
 use Rattle.divisors.proofs.questions.each_divided_by_one.Goals as goal
 
-pub returns-then-not-divided-by-one : goal.returns-then-not-divided-by-one
-returns-then-not-divided-by-one c = record { value = every_no (λ x. some (λ y. divides y x) c.args.ys.now) c.args.xs.now c.loop-x.x-index c.loop-x-test.true c.if-not-divided-by-one.ensures c.loop-x.invariant; laws = barred_laws }
+pub returns-then-not-divided_by_one : goal.returns-then-not-divided_by_one
+returns-then-not-divided_by_one c = record { value = every_no (λ x. some (λ y. divides y x) c.args.ys.now) c.args.xs.now c.loop-x.x-index c.loop-x-test.true c.if-not-divided_by_one.ensures c.loop-x.invariant; laws = barred_laws }
 
 pub loop-x-preserved : goal.loop-x-preserved
-loop-x-preserved c = every_yes (λ x. some (λ y. divides y x) c.args.ys.now) c.args.xs.now c.loop-x.x-index c.loop-x-test.true c.if-not-divided-by-one.ensures c.loop-x.invariant
+loop-x-preserved c = every_yes (λ x. some (λ y. divides y x) c.args.ys.now) c.args.xs.now c.loop-x.x-index c.loop-x-test.true c.if-not-divided_by_one.ensures c.loop-x.invariant
 
 pub returns : goal.returns
 returns c = record { value = every_end (λ x. some (λ y. divides y x) c.args.ys.now) c.args.xs.now c.loop-x.x-index c.loop-x-test.false c.loop-x.invariant; laws = barred_laws }

@@ -9,8 +9,8 @@ use Rattle.divisors.proofs.whole.+rest.Goals as goal
 apart : (a b g : ℕ) → g ≡ gcd_of a b → (g ≡ 1 → ⊥) → gcd_of a b ≡ 1 → ⊥
 apart a b g e ne k = ne (e ∙ k)
 
-pub nonzero-div-a : goal.nonzero-div-a
-nonzero-div-a t c = subst (λ (x : ℕ). 0 < x) (sym c.gcd-g.ensures.value) (gcd_pos c.args.a c.args.b c.requires)
+pub nonzero_div-a : goal.nonzero_div-a
+nonzero_div-a t c = subst (λ (x : ℕ). 0 < x) (sym c.gcd-g.ensures.value) (gcd_pos c.args.a c.args.b c.requires)
 
 pub rest-requires : goal.rest-requires
 rest-requires t c =

@@ -11,11 +11,11 @@ returns-then-n-eq0 c = record { value = zero_yes c.args.n c.args.p c.args.q c.if
 pub returns-else-n-eq0 : goal.returns-else-n-eq0
 returns-else-n-eq0 c = record { value = zero_test c.args.n c.args.p c.args.q c.if-p-eq0.true (omega arith); means = multiples_mean }
 
-pub nonzero-div-result : goal.nonzero-div-result
-nonzero-div-result c = subst (λ (x : ℕ). 0 < x) (sym c.gcd.ensures.value) (gcd_pos c.args.p c.args.q (omega arith))
+pub nonzero_div-result : goal.nonzero_div-result
+nonzero_div-result c = subst (λ (x : ℕ). 0 < x) (sym c.gcd.ensures.value) (gcd_pos c.args.p c.args.q (omega arith))
 
-pub nonzero-rem-result : goal.nonzero-rem-result
-nonzero-rem-result c =
+pub nonzero_rem-result : goal.nonzero_rem-result
+nonzero_rem-result c =
     subst (λ (x : ℕ). 0 < c.args.p / x) (sym c.gcd.ensures.value)
     (quotient_pos c.args.p (gcd_of c.args.p c.args.q) (omega arith) (gcd_is c.args.p c.args.q).left)
 

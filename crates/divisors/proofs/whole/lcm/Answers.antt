@@ -8,8 +8,8 @@ returns-then-a-eq0 c =
     let e : 0 ≡ lcm_of c.args.a c.args.b = sym (ap (λ (x : ℕ). lcm_of x c.args.b) c.if-a-eq0.true ∙ lcm_zero c.args.b) in
     record { value = fits (lcm_of c.args.a c.args.b) 0 e (omega arith); least = lcm_is c.args.a c.args.b }
 
-pub nonzero-div-a : goal.nonzero-div-a
-nonzero-div-a c = rw c.gcd.ensures.value (gcd_pos c.args.a c.args.b (omega arith))
+pub nonzero_div-a : goal.nonzero_div-a
+nonzero_div-a c = rw c.gcd.ensures.value (gcd_pos c.args.a c.args.b (omega arith))
 
 -- the product that the code takes is the least common multiple
 same : (a b g : ℕ) → g ≡ gcd_of a b → a / g * b ≡ lcm_of a b

@@ -11,14 +11,14 @@ same a b r e = ap (λ (x : ℕ). a / x) e
 pos : (a b r : ℕ) → 0 < a → r ≡ rest_of a b → 0 < a / r
 pos a b r h e = subst (λ (x : ℕ). 0 < x) (sym (same a b r e)) (shared_pos a b h)
 
-pub nonzero-div-shared : goal.nonzero-div-shared
-nonzero-div-shared c = subst (λ (x : ℕ). 0 < x) (sym c.rest.ensures) (rest_pos c.args.a c.args.b c.requires)
+pub nonzero_div-shared : goal.nonzero_div-shared
+nonzero_div-shared c = subst (λ (x : ℕ). 0 < x) (sym c.rest.ensures) (rest_pos c.args.a c.args.b c.requires)
 
-pub nonzero-rem-b : goal.nonzero-rem-b
-nonzero-rem-b c = pos c.args.a c.args.b c.rest.result c.requires c.rest.ensures
+pub nonzero_rem-b : goal.nonzero_rem-b
+nonzero_rem-b c = pos c.args.a c.args.b c.rest.result c.requires c.rest.ensures
 
-pub nonzero-div-result : goal.nonzero-div-result
-nonzero-div-result c = pos c.args.a c.args.b c.rest.result c.requires c.rest.ensures
+pub nonzero_div-result : goal.nonzero_div-result
+nonzero_div-result c = pos c.args.a c.args.b c.rest.result c.requires c.rest.ensures
 
 pub returns-then-shared-eq1 : goal.returns-then-shared-eq1
 returns-then-shared-eq1 c =

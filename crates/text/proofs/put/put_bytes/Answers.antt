@@ -9,8 +9,8 @@ loop-b-init c = wrote_none _ _
 
 pub loop-b-preserved : goal.loop-b-preserved
 loop-b-preserved c =
-    subst (λ (t : List ℕ). Wrote c.args.buf.now c.args.at t c.put-byte-end.new.buf c.put-byte-end.result) (sym (take_more c.args.text.now c.loop-b.b-index 0 (omega arith)))
-    (wrote_then c.loop-b.invariant c.put-byte-end.ensures)
+    subst (λ (t : List ℕ). Wrote c.args.buf.now c.args.at t c.put_byte-end.new.buf c.put_byte-end.result) (sym (take_more c.args.text.now c.loop-b.b-index 0 (omega arith)))
+    (wrote_then c.loop-b.invariant c.put_byte-end.ensures)
 
 pub returns : goal.returns
 returns c =

@@ -12,15 +12,15 @@ returns c =
     let n = c.from.ensures ∙ c.number.ensures in
     let place = place_text f.byte in
     let all : ℕ → List ℕ = λ m. codes "refused " ++ (decimal m ++ (place ++ 10 ∷ [])) in
-    let digits = c.put-decimal-b.ensures.short in
-    let at = c.put-place-c.ensures.short in
+    let digits = c.put_decimal-b.ensures.short in
+    let at = c.put_place-c.ensures.short in
     let long = length-append (codes "refused ") (decimal c.from.result ++ (place ++ 10 ∷ [])) in
     let rest = length-append (decimal c.from.result) (place ++ 10 ∷ []) in
     let last = length-append place (10 ∷ []) in
     let same = ap (λ (m : ℕ). length (all m)) n in
     record {
       wrote =
-          subst (λ (m : ℕ). Wrote c.args.buf.now 0 (all m) c.put-byte.new.buf c.put-byte.result) n
-          (wrote_then c.put-bytes-a.ensures (wrote_then c.put-decimal-b.ensures.wrote (wrote_then c.put-place-c.ensures.wrote c.put-byte.ensures)));
+          subst (λ (m : ℕ). Wrote c.args.buf.now 0 (all m) c.put_byte.new.buf c.put_byte.result) n
+          (wrote_then c.put_bytes-a.ensures (wrote_then c.put_decimal-b.ensures.wrote (wrote_then c.put_place-c.ensures.wrote c.put_byte.ensures)));
       short = omega arith;
     }

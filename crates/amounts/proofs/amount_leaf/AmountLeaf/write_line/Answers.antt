@@ -14,5 +14,5 @@ returns c =
     let same =
     ap (λ (rs : List Fraction). text_of low high rs c.fractions-2.result.now) c.fractions.ensures.list ∙
     ap (λ (bs : List Fraction). text_of low high (required a) bs) c.fractions-2.ensures.list in
-    texted (line_text a) c.args.buf.now c.put-line.new.buf c.put-line.result
-    (subst (λ (t : List ℕ). Wrote c.args.buf.now 0 t c.put-line.new.buf c.put-line.result) same c.put-line.ensures) (omega arith)
+    texted (line_text a) c.args.buf.now c.put_line.new.buf c.put_line.result
+    (subst (λ (t : List ℕ). Wrote c.args.buf.now 0 t c.put_line.new.buf c.put_line.result) same c.put_line.ensures) (omega arith)

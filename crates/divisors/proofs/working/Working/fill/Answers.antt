@@ -18,8 +18,8 @@ loop-w-preserved c =
     let i = c.loop-w.w-index in
     let now = held c.loop-w.self in
     let all = tidy_of (lowest_above n ws) in
-    let f = c.lowest-terms-f.result in
-    let is = c.lowest-terms-f.ensures.value in
+    let f = c.lowest_terms-f.result in
+    let is = c.lowest_terms-f.ensures.value in
     elim c.if-f-above.branch [
       | then-f-above w ↦ (
         omega (arith, w.put.ensures.count, ap (λ (s : Working). s.count) w.self-is, c.loop-w.invariant.0),

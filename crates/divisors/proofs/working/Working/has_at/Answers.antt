@@ -11,7 +11,7 @@ returns-then-at-self c =
     let n = c.args.self.now.count in
     let size : length xs ≡ 12 = search rules in
     let all = length-take-le n xs (omega arith) in
-    c.is-same.ensures ∙ ap (λ (g : Fraction). same g c.args.f) (sym (get_or-take n xs c.args.at none (omega arith))) ∙
+    c.is_same.ensures ∙ ap (λ (g : Fraction). same g c.args.f) (sym (get_or-take n xs c.args.at none (omega arith))) ∙
     ap (λ (t : Bool). t && same (get_or (take n xs) c.args.at none) c.args.f) (sym (lt-ltb c.args.at (length (take n xs)) (omega arith)))
 
 pub returns-else-at-self : goal.returns-else-at-self

@@ -9,7 +9,7 @@ use Rattle.divisors.specs.Fractions.{none}
 use Rattle.divisors.specs.Rows.{held}
 use Rattle.divisors.proofs.Loops.{keep_yes, keep_no}
 use Rattle.divisors.proofs.working.Working.keep_undivided.Goals as goal
-use Rattle.divisors.proofs.working.Working.keep_undivided.Goals.{then-not-is-divided, else-not-is-divided}
+use Rattle.divisors.proofs.working.Working.keep_undivided.Goals.{then-not-is_divided, else-not-is_divided}
 
 -- the test of the part that the code lends
 tests : (from : List Fraction) (n : ℕ) (f : Fraction) (t : Bool) → t ≡ divided (take (n - 0) from) f → divided (take n from) f ≡ t
@@ -23,16 +23,16 @@ loop-i-preserved c =
     let f = get_or from i none in
     let size : length from ≡ 12 = search rules in
     let h : i < n = c.loop-i-test.true in
-    elim c.if-not-is-divided.branch [
-      | then-not-is-divided w ↦ (
-        keep_yes (λ x. not (divided (take n from) x)) from n i (held c.loop-i.self) (held c.if-not-is-divided.self) f (omega arith) h refl
-            (not_from_false (divided (take n from) f) (tests from n f false w.if-not-is-divided.ensures)) c.loop-i.invariant.0 (ap held w.self-is ∙ w.push.ensures.row),
+    elim c.if-not-is_divided.branch [
+      | then-not-is_divided w ↦ (
+        keep_yes (λ x. not (divided (take n from) x)) from n i (held c.loop-i.self) (held c.if-not-is_divided.self) f (omega arith) h refl
+            (not_from_false (divided (take n from) f) (tests from n f false w.if-not-is_divided.ensures)) c.loop-i.invariant.0 (ap held w.self-is ∙ w.push.ensures.row),
         omega (arith, w.push.ensures.count, ap (λ (s : Working). s.count) w.self-is, c.loop-i.invariant.1),
       )
-      | else-not-is-divided w ↦ (
+      | else-not-is_divided w ↦ (
         ap held w.self-is ∙
             keep_no (λ x. not (divided (take n from) x)) from n i (held c.loop-i.self) f (omega arith) h refl
-            (not_from_true (divided (take n from) f) (tests from n f true w.if-not-is-divided.ensures)) c.loop-i.invariant.0,
+            (not_from_true (divided (take n from) f) (tests from n f true w.if-not-is_divided.ensures)) c.loop-i.invariant.0,
         omega (arith, ap (λ (s : Working). s.count) w.self-is, c.loop-i.invariant.1),
       )
     ]

@@ -6,8 +6,8 @@ use Rattle.divisors.specs.Lists.{place_of}
 use Rattle.divisors.proofs.Places.{place_more, place_stop, place_all}
 use Rattle.divisors.proofs.working.Working.place.Goals as goal
 
-pub returns-then-not-is-lower : goal.returns-then-not-is-lower
-returns-then-not-is-lower c =
+pub returns-then-not-is_lower : goal.returns-then-not-is_lower
+returns-then-not-is_lower c =
     let xs = c.args.self.now.items in
     let n = c.args.self.now.count in
     let size : length xs ≡ 12 = search rules in
@@ -15,7 +15,7 @@ returns-then-not-is-lower c =
     record {
       place =
           place_stop c.args.f (take n xs) c.loop-k.k (omega arith)
-          (ap (λ (g : Fraction). lower g c.args.f) (get_or-take n xs c.loop-k.k none c.loop-k-test.true) ∙ sym c.if-not-is-lower.ensures)
+          (ap (λ (g : Fraction). lower g c.args.f) (get_or-take n xs c.loop-k.k none c.loop-k-test.true) ∙ sym c.if-not-is_lower.ensures)
           c.loop-k.invariant;
       below = omega arith;
     }
@@ -27,7 +27,7 @@ loop-k-preserved c =
     let size : length xs ≡ 12 = search rules in
     let all = length-take-le n xs (omega arith) in
     place_more c.args.f (take n xs) c.loop-k.k (omega arith)
-    (ap (λ (g : Fraction). lower g c.args.f) (get_or-take n xs c.loop-k.k none c.loop-k-test.true) ∙ sym c.if-not-is-lower.ensures)
+    (ap (λ (g : Fraction). lower g c.args.f) (get_or-take n xs c.loop-k.k none c.loop-k-test.true) ∙ sym c.if-not-is_lower.ensures)
     c.loop-k.invariant
 
 pub returns : goal.returns

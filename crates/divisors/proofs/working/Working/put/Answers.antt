@@ -18,10 +18,10 @@ put_new f xs at e t =
     ap (λ (k : ℕ). insert xs k f) e ∙
     sym (cond-false (stands f xs) xs (insert xs (place_of f xs) f) (ap (λ (k : ℕ). ltb k (length xs) && same (get_or xs k none) f) (sym e) ∙ t))
 
-pub returns-then-has-at : goal.returns-then-has-at
-returns-then-has-at c =
+pub returns-then-has_at : goal.returns-then-has_at
+returns-then-has_at c =
     record {
-      row = put_same c.args.f (held c.args.self.now) c.place-at.result c.place-at.ensures.place (sym c.if-has-at.ensures);
+      row = put_same c.args.f (held c.args.self.now) c.place-at.result c.place-at.ensures.place (sym c.if-has_at.ensures);
       count = omega arith;
     }
 
@@ -30,6 +30,6 @@ returns c =
     record {
       row =
           c.insert.ensures.row ∙
-          put_new c.args.f (held c.args.self.now) c.place-at.result c.place-at.ensures.place (sym c.if-has-at.ensures);
+          put_new c.args.f (held c.args.self.now) c.place-at.result c.place-at.ensures.place (sym c.if-has_at.ensures);
       count = omega (arith, c.insert.ensures.count);
     }

@@ -3,12 +3,12 @@ use Rattle.divisors.specs.Rows.{held}
 use Rattle.divisors.proofs.Tidies.{by_join, by_strip}
 use Rattle.divisors.proofs.working.Working.step.Goals as goal
 
-pub returns-then-join-once : goal.returns-then-join-once
-returns-then-join-once c =
-    let s = by_join (held c.args.self.now) (held c.join-once.new.self) c.if-join-once.ensures.row in
-    record { row = s.row; weight = s.falls; count = omega (arith, c.if-join-once.ensures.count) }
+pub returns-then-join_once : goal.returns-then-join_once
+returns-then-join_once c =
+    let s = by_join (held c.args.self.now) (held c.join_once.new.self) c.if-join_once.ensures.row in
+    record { row = s.row; weight = s.falls; count = omega (arith, c.if-join_once.ensures.count) }
 
-pub returns-else-join-once : goal.returns-else-join-once
-returns-else-join-once c =
-    let s = by_strip (held c.args.self.now) (held c.join-once.new.self) (held c.strip-once.new.self) c.strip-once.result c.if-join-once.ensures.row c.strip-once.ensures.row in
-    record { row = s.row; weight = s.falls; count = omega (arith, c.if-join-once.ensures.count, c.strip-once.ensures.count) }
+pub returns-else-join_once : goal.returns-else-join_once
+returns-else-join_once c =
+    let s = by_strip (held c.args.self.now) (held c.join_once.new.self) (held c.strip_once.new.self) c.strip_once.result c.if-join_once.ensures.row c.strip_once.ensures.row in
+    record { row = s.row; weight = s.falls; count = omega (arith, c.if-join_once.ensures.count, c.strip_once.ensures.count) }
