@@ -4,7 +4,7 @@ ghost use Rattle.days.specs.Shows.{days_laws};
 
 use crate::calendar::LAST_DAY;
 use crate::day_leaf::DayLeaf;
-use crate::reader::leaf_at;
+use crate::reader::read_leaf;
 use crate::weekdays::{holds_set, is_in_set, next_in_set};
 use leaf::{Bounds, Fault, Leaf};
 
@@ -74,7 +74,7 @@ impl Leaf<u32> for DayLeaf {
     }
 
     fn read(sheet: &[u8], start: usize, place: &mut DayLeaf) -> Result<usize, Fault> {
-        let (leaf, end) = leaf_at(sheet, start)?;
+        let (leaf, end) = read_leaf(sheet, start)?;
         *place = leaf;
         Ok(end)
     }
