@@ -38,13 +38,13 @@ in_month y left m z n e a b c f g h i j k =
     (a, record { from = f; to = g; month = omega arith; year = omega arith; day = omega arith; last = omega arith }, omega arith)
 
 -- what has a number is a date
-known : (y m d k : ℕ) → day_of y m d ≡ Some k → Valid y m d × (k ≡ day_number y m d)
+pub known : (y m d k : ℕ) → day_of y m d ≡ Some k → Valid y m d × (k ≡ day_number y m d)
 unfolding day_of
 known y m d k = cond_both (is_date y m d) (Some (day_number y m d)) None (λ r. r ≡ Some k → Valid y m d × (k ≡ day_number y m d))
     (λ t e. (valid y m d t, cc)) (λ f e. let z : ◌≡◌ {A = ℕ} 0 1 = cc in absurd (omega arith))
 
 -- a day lies before the next year starts
-in_year : (y m d : ℕ) → Valid y m d → day_number y m d < year_start (y + 1 - 2000)
+pub in_year : (y m d : ℕ) → Valid y m d → day_number y m d < year_start (y + 1 - 2000)
 in_year y m d v =
     let a = months (leap y) (m + 1) in
     let s = year_step y v.from in

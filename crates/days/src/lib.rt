@@ -4,6 +4,7 @@
 mod calendar;
 mod day_leaf;
 mod kind;
+mod line;
 mod reader;
 mod weekdays;
 
