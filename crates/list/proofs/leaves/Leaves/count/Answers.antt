@@ -1,9 +1,9 @@
 use Rattle.std.proofs.Common.{◌≡◌, ◌≤◌, length, take, sym, refl, ap, ◌∙◌, arith, rules}
-use Rattle.std.proofs.lemmas.Bool.{cond-true, cond-false, both_ways}
+use Rattle.std.proofs.lemmas.Bool.{cond-true, cond-false}
 use Rattle.std.proofs.lemmas.List.{length-take-le}
 use Rattle.list.specs.Runs.{reading}
 use Rattle.list.specs.Runs.Call.{count}
-use Rattle.list.specs.Held.{held_of, places_of, Settled}
+use Rattle.list.specs.Held.{held_of, Settled}
 use Rattle.list.proofs.Calls.{cut, cut_length, cut_within}
 use Rattle.list.proofs.Steps.{sound_read, leads_read, read_promised}
 use Rattle.list.proofs.leaves.Leaves.count.Goals as goal

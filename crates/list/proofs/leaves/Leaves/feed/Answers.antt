@@ -1,5 +1,4 @@
-use Rattle.std.proofs.Common.{rules}
-use Rattle.list.proofs.Feeds.{Feeding, feeding_none, feeding_more, feeding_stop, feeding_all}
+use Rattle.list.proofs.Feeds.{feeding_more, feeding_stop, feeding_all}
 use Rattle.list.proofs.leaves.Leaves.feed.Goals as goal
 
 pub loop-at-preserved : goal.loop-at-preserved

@@ -1,4 +1,4 @@
-use Rattle.std.proofs.Common.{◌≡◌, ℕ, ◌<◌, Bool, true, false, length, get_or, sym, refl, ap, ◌∙◌, subst, arith, ltb-false, ltb-true}
+use Rattle.std.proofs.Common.{◌<◌, length, sym, refl, ap, ◌∙◌, subst, arith, ltb-false, ltb-true}
 use Rattle.list.specs.Runs.Call.{sheet}
 use Rattle.list.specs.Held.{held_of, places_of, Tells}
 use Rattle.list.proofs.Firsts.{sheet_long, sheet_empty, sheet_other, sheet_fed, refused_tells}
