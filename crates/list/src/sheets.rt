@@ -3,7 +3,7 @@ ghost use Rattle.leaf.specs.Faults.{Fills, at_byte, number_of};
 ghost use Rattle.leaf.specs.Kind.{before};
 ghost use Rattle.list.specs.Held.{Leads, Sound, Tells, Unsettles, held_of, places_of, stopped};
 ghost use Rattle.list.specs.Runs.{Call, after};
-ghost use Rattle.list.specs.Runs.Call.{sheet as call-sheet};
+ghost use Rattle.list.specs.Runs.Call.{sheet as call_sheet};
 ghost use Rattle.list.specs.Sheets.{accepted_at, fed, put_in, sheet_outcome};
 
 use crate::leaves::Leaves;
@@ -87,9 +87,9 @@ impl<'a, V: Copy, L: Leaf<V>> Leaves<'a, V, L> {
         ensures table { self.new.table.ghost_name ≡ self.old.table.ghost_name }
         ensures places { places_of self.new ≡ places_of self.old }
         ensures answer { Tells result (sheet_outcome L.kind (places_of self.old) bytes.now (held_of self.old)) }
-        ensures held { held_of self.new ≡ after L.kind (places_of self.old) (held_of self.old) (call-sheet bytes.now) }
+        ensures held { held_of self.new ≡ after L.kind (places_of self.old) (held_of self.old) (call_sheet bytes.now) }
         ensures sound { Sound L.kind self.old → Sound L.kind self.new }
-        ensures run { (cs : List (Call V L)) → Leads L.kind cs self.old → Leads L.kind (cs ++ call-sheet bytes.now ∷ []) self.new }
+        ensures run { (cs : List (Call V L)) → Leads L.kind cs self.old → Leads L.kind (cs ++ call_sheet bytes.now ∷ []) self.new }
     {
         if bytes.len() > SHEET_LIMIT {
             return refused_first(Refusal::TooLong);
