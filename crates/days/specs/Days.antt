@@ -15,7 +15,7 @@ is_lawful a =
 abbrev pub days : Kind ℕ DayLeaf
 days = record {
   is_value = is_day_number;
-  le = leb;
+  le = nat_le;
   succ = λ v. cond (nat_lt v 73048) (Some (v + 1)) None;
   lawful = is_lawful;
   minimum = λ a. a.bounds.minimum;

@@ -4,6 +4,7 @@ pub mod Leaves
 pub mod Making
 pub mod Reading
 pub mod Days
+pub mod Meaning
 pub mod Shows
 pub mod Grid
 pub mod Sets

@@ -1,6 +1,7 @@
 ghost use Rattle.days.specs.Days.{days};
 ghost use Rattle.days.specs.Leaves.{is_window};
 ghost use Rattle.days.specs.Making.{bound, made_of};
+ghost use Rattle.days.specs.Meaning.{Means, value_of};
 ghost use Rattle.leaf.specs.Faults.{told};
 ghost use Rattle.leaf.specs.Kind.{Lawful};
 ghost use Rattle.std.specs.Prelude.{◌≡◌, IfOk};
@@ -45,6 +46,7 @@ impl DayLeaf {
     pub fn new(minimum: Option<Date>, maximum: Option<Date>, set: u64) -> Result<DayLeaf, Fault>
         ensures value { told result ≡ made_of minimum maximum set }
         ensures sound { IfOk result (λ a. Lawful days a) }
+        ensures means { IfOk result (λ a. Means (value_of minimum) (value_of maximum) set a) }
     {
         let low = bound_of(minimum)?;
         let high = bound_of(maximum)?;

@@ -4,7 +4,7 @@ ghost use Rattle.days.specs.Shows.{days_laws};
 
 use crate::calendar::LAST_DAY;
 use crate::day_leaf::DayLeaf;
-use crate::reader::leaf_at;
+use crate::reader::read_leaf;
 use crate::weekdays::{holds_set, is_in_set, next_in_set};
 use leaf::{Bounds, Fault, Leaf};
 
@@ -17,8 +17,6 @@ const ALL: u8 = 127;
 // Day leaves are a kind.
 impl Leaf<u32> for DayLeaf {
     ghost kind = { days };
-
-    ghost lawfully = { days_laws };
 
     fn blank() -> DayLeaf {
         DayLeaf {
@@ -76,8 +74,10 @@ impl Leaf<u32> for DayLeaf {
     }
 
     fn read(sheet: &[u8], start: usize, place: &mut DayLeaf) -> Result<usize, Fault> {
-        let (leaf, end) = leaf_at(sheet, start)?;
+        let (leaf, end) = read_leaf(sheet, start)?;
         *place = leaf;
         Ok(end)
     }
+
+    ghost lawfully = { days_laws };
 }

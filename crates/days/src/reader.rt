@@ -1,3 +1,4 @@
+ghost use Rattle.days.specs.Meaning.{ReadMeans};
 ghost use Rattle.days.specs.Reading.{bound_at, bounds_at, flags_at, leaf_at, set_at};
 ghost use Rattle.leaf.specs.Faults.{seen};
 ghost use Rattle.std.specs.Prelude.{◌≡◌, length, drop};
@@ -60,7 +61,7 @@ fn set_at(sheet: &[u8], start: usize) -> Result<(u8, usize), Fault>
 }
 
 // The leaf whose flags stand at `start`, and the place past it.
-pub(crate) fn leaf_at(sheet: &[u8], start: usize) -> Result<(DayLeaf, usize), Fault>
+fn leaf_at(sheet: &[u8], start: usize) -> Result<(DayLeaf, usize), Fault>
     ensures { seen result ≡ leaf_at sheet.now start }
 {
     let (flags, at_bounds) = flags_at(sheet, start)?;
@@ -70,4 +71,12 @@ pub(crate) fn leaf_at(sheet: &[u8], start: usize) -> Result<(DayLeaf, usize), Fa
         return Err(Fault::at(Refusal::MinAboveMax, start));
     }
     Ok((DayLeaf { bounds, weekdays }, end))
+}
+
+// The same, with what the leaf means.
+pub(crate) fn read_leaf(sheet: &[u8], start: usize) -> Result<(DayLeaf, usize), Fault>
+    ensures reads { seen result ≡ leaf_at sheet.now start }
+    ensures means { ReadMeans }
+{
+    leaf_at(sheet, start)
 }

@@ -2,8 +2,8 @@ use Rattle.std.proofs.Common.{sym, arith, rules}
 use Rattle.days.specs.Grid.{next_past, searched, search_hit, search_on}
 use Rattle.days.proofs.weekdays.next_in_set.Goals as goal
 
-pub returns-then-day-ge-LAST-DAY : goal.returns-then-day-ge-LAST-DAY
-returns-then-day-ge-LAST-DAY c = sym (next_past c.args.set c.args.day (omega arith))
+pub returns-then-day-ge-LAST_DAY : goal.returns-then-day-ge-LAST_DAY
+returns-then-day-ge-LAST_DAY c = sym (next_past c.args.set c.args.day (omega arith))
 
 pub loop-next-init : goal.loop-next-init
 loop-next-init c = searched c.args.set c.args.day
