@@ -5,7 +5,7 @@ ghost use Rattle.std.specs.Fmt.{signed_decimal};
 use crate::amount_leaf::AmountLeaf;
 use divisors::Fraction;
 use leaf::{Fault, Refusal};
-use text::Line;
+use texts::Line;
 
 // The shortest buffer for a line.
 const ROOM: usize = 600;

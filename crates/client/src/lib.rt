@@ -11,7 +11,7 @@ use list::Leaves;
 
 // Opens a list in the caller's table, inserts a leaf, takes a sheet and counts: the lines stand in front in the table.
 pub fn lines_of<V: Copy, L: Leaf<V>>(table: &mut [L], leaf: L, bytes: &[u8]) -> usize
-    ensures { Lawful kind leaf → Promised kind (length table.old) (insert leaf ∷ sheet bytes.now ∷ []) (take result table.new) }
+    ensures { Lawful L.kind leaf → Promised L.kind (length table.old) (insert leaf ∷ sheet bytes.now ∷ []) (take result table.new) }
 {
     let mut list = Leaves::open(table);
     let _ = list.insert(leaf);

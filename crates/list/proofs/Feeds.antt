@@ -1,13 +1,13 @@
 -- The loop over the leaves of a sheet.
-use Rattle.std.proofs.Common.{◌≡◌, ℕ, zero, suc, ◌+◌, ◌-◌, ◌<◌, ◌≤◌, Bool, true, false, cond, ltb, leb, List, [], ◌∷◌, length, Some, None, Ok, Err, Option, Result, sym, refl, ap, ◌∙◌, subst, arith}
+use Rattle.std.proofs.Common.{◌≡◌, ℕ, zero, suc, ◌+◌, ◌-◌, ◌<◌, ◌≤◌, cond, ltb, List, length, Some, None, Ok, Err, Option, sym, refl, ap, ◌∙◌, arith}
 use Rattle.std.proofs.lemmas.Bool.{cond-true, cond-false, lt-ltb, le-ltb}
 use Rattle.leaf.specs.declared.fault.Fault.{Fault}
-use Rattle.leaf.specs.Faults.{Refused, Answer, found, refused, shown, Fills}
+use Rattle.leaf.specs.Faults.{Refused, Answer, found, refused, Fills}
 use Rattle.leaf.specs.Kind.{Kind, Laws, before}
 use Rattle.list.specs.Lists.{inserted}
 use Rattle.list.specs.Sheets.{Outcome, ends, after_leaf, judged, accepted_at, put_in, fed}
 use Rattle.list.specs.declared.sheets.SheetAnswer.{SheetAnswer as Told}
-use Rattle.list.specs.Held.{held_of, places_of, Unsettles, stopped, Tells}
+use Rattle.list.specs.Held.{held_of, places_of, Unsettles, Tells}
 use Rattle.list.specs.declared.leaves.Leaves.{Leaves}
 use Rattle.list.proofs.Pouring.{accepted_read}
 

@@ -1,5 +1,5 @@
 -- What an insert or a sheet does is to put the leaves that it accepts into their places, one after the other; all of them are lawful.
-use Rattle.std.proofs.Common.{◌≡◌, ℕ, zero, suc, ◌<◌, ◌≤◌, Bool, true, false, cond, ltb, leb, ◌⊎◌, List, [], ◌∷◌, length, Some, None, Option, sym, refl, ap, ◌∙◌, subst, inl, inr, arith}
+use Rattle.std.proofs.Common.{◌≡◌, ℕ, zero, suc, ◌<◌, ◌≤◌, Bool, true, false, cond, ltb, ◌⊎◌, List, [], ◌∷◌, length, Some, None, refl, subst, inl, inr}
 use Rattle.std.proofs.lemmas.Bool.{cond_both}
 use Rattle.leaf.specs.Faults.{Refused, Answer, found, refused, at_byte}
 use Rattle.leaf.specs.Kind.{Kind, Laws, Lawful, WellRead, before}

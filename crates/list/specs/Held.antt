@@ -1,5 +1,5 @@
 -- What the fields of a list say.
-use Rattle.std.specs.Prelude.{◌≡◌, ℕ, Bool, true, false, List, [], ◌∷◌, length, take, Some, None, Ok, Err, Option, Result}
+use Rattle.std.specs.Prelude.{◌≡◌, ℕ, true, List, length, take, Some, None, Ok, Err, Option, Result}
 use Rattle.leaf.specs.declared.fault.Fault.{Fault}
 use Rattle.leaf.specs.Faults.{Refused, shown}
 use Rattle.leaf.specs.Kind.{Kind, Lawful, before}

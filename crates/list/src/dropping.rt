@@ -6,7 +6,7 @@ use leaf::{Leaf, covers};
 
 // Whether one of the lines covers the line.
 fn any_covers<V: Copy, L: Leaf<V>>(lines: &[L], line: &L) -> bool
-    ensures { result ≡ any (λ y. covering kind y line.now) lines.now }
+    ensures { result ≡ any (λ y. covering L.kind y line.now) lines.now }
 {
     for other in lines {
         if covers(other, line) {
@@ -19,7 +19,7 @@ fn any_covers<V: Copy, L: Leaf<V>>(lines: &[L], line: &L) -> bool
 // Whether another of the lines than the one at `i`, which is `line`, covers it.
 fn is_covered<V: Copy, L: Leaf<V>>(lines: &[L], i: usize, line: &L) -> bool
     requires { i < length lines.now }
-    ensures { result ≡ (any (λ y. covering kind y line.now) (take i lines.now) || any (λ y. covering kind y line.now) (drop (i + 1) lines.now)) }
+    ensures { result ≡ (any (λ y. covering L.kind y line.now) (take i lines.now) || any (λ y. covering L.kind y line.now) (drop (i + 1) lines.now)) }
 {
     if any_covers(&lines[0..i], line) {
         return true;
@@ -32,7 +32,7 @@ fn is_covered<V: Copy, L: Leaf<V>>(lines: &[L], i: usize, line: &L) -> bool
 pub(crate) fn drop_covered<V: Copy, L: Leaf<V>>(table: &mut [L], held: usize) -> usize
     requires { held ≤ length table.old }
     ensures fewer { result ≤ held }
-    ensures lines { take result table.new ≡ kept (covering kind) (take held table.old) }
+    ensures lines { take result table.new ≡ kept (covering L.kind) (take held table.old) }
     ensures rest { drop held table.new ≡ drop held table.old }
 {
     let mut w = 0;

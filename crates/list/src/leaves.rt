@@ -4,7 +4,7 @@ ghost use Rattle.leaf.specs.Kind.{Lawful, before, admits as admitted};
 ghost use Rattle.list.specs.Held.{Leads, Settled, Sound, Unsettles, held_of, places_of, refused_with};
 ghost use Rattle.list.specs.Lists.{Placed, any};
 ghost use Rattle.list.specs.Runs.{Call, Promised, Promises, after, reading};
-ghost use Rattle.list.specs.Runs.Call.{admits? as call-admits, count as call-count, empty? as call-empty, insert as call-insert, line as call_line};
+ghost use Rattle.list.specs.Runs.Call.{admits? as call_admits, count as call_count, empty? as call_empty, insert as call_insert, line as call_line};
 ghost use Rattle.list.specs.Sheets.{is_full};
 
 use crate::dropping::drop_covered;
@@ -34,7 +34,7 @@ fn fill(held: usize, places: usize) -> bool
 fn read_held<V: Copy, L: Leaf<V>>(table: &mut [L], held: usize) -> usize
     requires { held ≤ length table.old }
     ensures fewer { result ≤ held }
-    ensures lines { take result table.new ≡ reading kind (take held table.old) }
+    ensures lines { take result table.new ≡ reading L.kind (take held table.old) }
 {
     let merged = merge_held(table, held);
     drop_covered(table, merged)
@@ -45,9 +45,9 @@ impl<'a, V: Copy, L: Leaf<V>> Leaves<'a, V, L> {
     pub fn open(table: &'a mut [L]) -> Leaves<'a, V, L>
         ensures table { (result.table.ghost_name ≡ table.entry.ghost_name) × (result.table.now ≡ table.old) }
         ensures held { held_of result ≡ [] }
-        ensures sound { Sound kind result }
-        ensures run { Leads kind [] result }
-        ensures promises { Promises kind }
+        ensures sound { Sound L.kind result }
+        ensures run { Leads L.kind [] result }
+        ensures promises { Promises L.kind }
     {
         Leaves {
             table,
@@ -63,7 +63,7 @@ impl<'a, V: Copy, L: Leaf<V>> Leaves<'a, V, L> {
         ensures places { places_of self.new ≡ places_of self.old }
         ensures answer { result ≡ not (is_full (places_of self.old) (held_of self.old)) }
         ensures full { is_full (places_of self.old) (held_of self.old) ≡ true → self.new ≡ self.old }
-        ensures held { held_of self.new ≡ after kind (places_of self.old) (held_of self.old) (call-insert leaf) }
+        ensures held { held_of self.new ≡ after L.kind (places_of self.old) (held_of self.old) (call_insert leaf) }
         ensures flag { Unsettles self.old self.new }
     {
         let places = self.table.len();
@@ -83,10 +83,10 @@ impl<'a, V: Copy, L: Leaf<V>> Leaves<'a, V, L> {
         ensures places { places_of self.new ≡ places_of self.old }
         ensures answer { refused_with result ≡ (if is_full (places_of self.old) (held_of self.old) then Some (unplaced 10) else None) }
         ensures full { is_full (places_of self.old) (held_of self.old) ≡ true → self.new ≡ self.old }
-        ensures held { held_of self.new ≡ after kind (places_of self.old) (held_of self.old) (call-insert leaf) }
-        ensures place { Sound kind self.old → Lawful kind leaf → is_full (places_of self.old) (held_of self.old) ≡ false → Placed (before kind) leaf (held_of self.old) (held_of self.new) }
-        ensures sound { Sound kind self.old → Lawful kind leaf → Sound kind self.new }
-        ensures run { (cs : List (Call V L)) → Leads kind cs self.old → Lawful kind leaf → Leads kind (cs ++ call-insert leaf ∷ []) self.new }
+        ensures held { held_of self.new ≡ after L.kind (places_of self.old) (held_of self.old) (call_insert leaf) }
+        ensures place { Sound L.kind self.old → Lawful L.kind leaf → is_full (places_of self.old) (held_of self.old) ≡ false → Placed (before L.kind) leaf (held_of self.old) (held_of self.new) }
+        ensures sound { Sound L.kind self.old → Lawful L.kind leaf → Sound L.kind self.new }
+        ensures run { (cs : List (Call V L)) → Leads L.kind cs self.old → Lawful L.kind leaf → Leads L.kind (cs ++ call_insert leaf ∷ []) self.new }
     {
         if !self.accept(leaf) {
             return Err(Fault::unplaced(Refusal::TableFull));
@@ -97,8 +97,8 @@ impl<'a, V: Copy, L: Leaf<V>> Leaves<'a, V, L> {
     // Whether a held leaf admits the value; changes nothing.
     pub fn admits(&mut self, v: V) -> bool
         ensures same { self.new ≡ self.old }
-        ensures answer { result ≡ any (λ x. admitted kind x v) (held_of self.old) }
-        ensures run { (cs : List (Call V L)) → Leads kind cs self.old → Leads kind (cs ++ call-admits v ∷ []) self.new }
+        ensures answer { result ≡ any (λ x. admitted L.kind x v) (held_of self.old) }
+        ensures run { (cs : List (Call V L)) → Leads L.kind cs self.old → Leads L.kind (cs ++ call_admits v ∷ []) self.new }
     {
         let looked_at = self.held.min(self.table.len());
         held_admits(self.table, looked_at, v)
@@ -108,7 +108,7 @@ impl<'a, V: Copy, L: Leaf<V>> Leaves<'a, V, L> {
     pub fn is_empty(&mut self) -> bool
         ensures same { self.new ≡ self.old }
         ensures answer { result ≡ (length (held_of self.old) == 0) }
-        ensures run { (cs : List (Call V L)) → Leads kind cs self.old → Leads kind (cs ++ call-empty ∷ []) self.new }
+        ensures run { (cs : List (Call V L)) → Leads L.kind cs self.old → Leads L.kind (cs ++ call_empty ∷ []) self.new }
     {
         self.held.min(self.table.len()) == 0
     }
@@ -120,11 +120,11 @@ impl<'a, V: Copy, L: Leaf<V>> Leaves<'a, V, L> {
         ensures answer { result ≡ length (held_of self.new) }
         ensures within { result ≤ length self.new.table.now }
         ensures shown { take result self.new.table.now ≡ held_of self.new }
-        ensures held { held_of self.new ≡ (if self.old.canonical then held_of self.old else reading kind (held_of self.old)) }
-        ensures lines { Settled kind self.old → held_of self.new ≡ reading kind (held_of self.old) }
-        ensures sound { Sound kind self.old → Sound kind self.new }
-        ensures run { (cs : List (Call V L)) → Leads kind cs self.old → Leads kind (cs ++ call-count ∷ []) self.new }
-        ensures promises { (cs : List (Call V L)) → Leads kind cs self.old → Promised kind (places_of self.old) cs (held_of self.new) }
+        ensures held { held_of self.new ≡ (if self.old.canonical then held_of self.old else reading L.kind (held_of self.old)) }
+        ensures lines { Settled L.kind self.old → held_of self.new ≡ reading L.kind (held_of self.old) }
+        ensures sound { Sound L.kind self.old → Sound L.kind self.new }
+        ensures run { (cs : List (Call V L)) → Leads L.kind cs self.old → Leads L.kind (cs ++ call_count ∷ []) self.new }
+        ensures promises { (cs : List (Call V L)) → Leads L.kind cs self.old → Promised L.kind (places_of self.old) cs (held_of self.new) }
     {
         let held = self.held.min(self.table.len());
         if self.canonical {
@@ -142,11 +142,11 @@ impl<'a, V: Copy, L: Leaf<V>> Leaves<'a, V, L> {
         ensures places { places_of self.new ≡ places_of self.old }
         ensures answer { result ≡ nat_lt n (length (held_of self.new)) }
         ensures filled { place.new ≡ slice_index_or (held_of self.new) n place.old }
-        ensures held { held_of self.new ≡ (if self.old.canonical then held_of self.old else reading kind (held_of self.old)) }
-        ensures lines { Settled kind self.old → held_of self.new ≡ reading kind (held_of self.old) }
-        ensures sound { Sound kind self.old → Sound kind self.new }
-        ensures run { (cs : List (Call V L)) → Leads kind cs self.old → Leads kind (cs ++ call_line n ∷ []) self.new }
-        ensures promises { (cs : List (Call V L)) → Leads kind cs self.old → Promised kind (places_of self.old) cs (held_of self.new) }
+        ensures held { held_of self.new ≡ (if self.old.canonical then held_of self.old else reading L.kind (held_of self.old)) }
+        ensures lines { Settled L.kind self.old → held_of self.new ≡ reading L.kind (held_of self.old) }
+        ensures sound { Sound L.kind self.old → Sound L.kind self.new }
+        ensures run { (cs : List (Call V L)) → Leads L.kind cs self.old → Leads L.kind (cs ++ call_line n ∷ []) self.new }
+        ensures promises { (cs : List (Call V L)) → Leads L.kind cs self.old → Promised L.kind (places_of self.old) cs (held_of self.new) }
     {
         if n >= self.count() {
             return false;

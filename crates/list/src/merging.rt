@@ -9,7 +9,7 @@ use leaf::{Leaf, adjoins, join};
 pub(crate) fn merge_held<V: Copy, L: Leaf<V>>(table: &mut [L], held: usize) -> usize
     requires { held ≤ length table.old }
     ensures fewer { result ≤ held }
-    ensures lines { take result table.new ≡ joined (touches kind) (joining kind) (take held table.old) }
+    ensures lines { take result table.new ≡ joined (touches L.kind) (joining L.kind) (take held table.old) }
     ensures rest { drop held table.new ≡ drop held table.old }
 {
     if held == 0 {

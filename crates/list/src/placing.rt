@@ -7,7 +7,7 @@ use leaf::{Leaf, no_later};
 
 // Whether the leaf's place is behind the other: that one is no later.
 fn goes_behind<V: Copy, L: Leaf<V>>(leaf: &L, other: &L) -> bool
-    ensures { result ≡ before kind other.now leaf.now }
+    ensures { result ≡ before L.kind other.now leaf.now }
 {
     no_later(other, leaf)
 }
@@ -15,7 +15,7 @@ fn goes_behind<V: Copy, L: Leaf<V>>(leaf: &L, other: &L) -> bool
 // The place behind the last leaf that is no later, looked for from the back: a leaf that comes in order is placed at once.
 fn find_place<V: Copy, L: Leaf<V>>(held: &[L], leaf: &L) -> usize
     ensures within { result ≤ length held.now }
-    ensures place { inserted (before kind) leaf.now held.now ≡ put_at held.now result leaf.now }
+    ensures place { inserted (before L.kind) leaf.now held.now ≡ put_at held.now result leaf.now }
 {
     let mut at = held.len();
     while at > 0 {
@@ -43,7 +43,7 @@ fn shift_in<L: Copy>(table: &mut [L], at: usize, held: usize, leaf: L)
 // Puts the leaf into its place among the first `held`.
 pub(crate) fn place<V: Copy, L: Leaf<V>>(table: &mut [L], held: usize, leaf: L)
     requires { held < length table.old }
-    ensures { table.new ≡ inserted (before kind) leaf (take held table.old) ++ drop (held + 1) table.old }
+    ensures { table.new ≡ inserted (before L.kind) leaf (take held table.old) ++ drop (held + 1) table.old }
 {
     let at = find_place(&table[0..held], &leaf);
     shift_in(table, at, held, leaf);

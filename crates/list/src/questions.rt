@@ -6,7 +6,7 @@ use leaf::{Leaf, admits};
 
 // Whether one of the leaves admits the value.
 fn any_admits<V: Copy, L: Leaf<V>>(held: &[L], v: V) -> bool
-    ensures { result ≡ any (λ x. admitted kind x v) held.now }
+    ensures { result ≡ any (λ x. admitted L.kind x v) held.now }
 {
     for leaf in held {
         if admits(leaf, v) {
@@ -20,7 +20,7 @@ fn any_admits<V: Copy, L: Leaf<V>>(held: &[L], v: V) -> bool
 pub(crate) fn held_admits<V: Copy, L: Leaf<V>>(table: &mut [L], held: usize, v: V) -> bool
     requires { held ≤ length table.old }
     ensures same { table.new ≡ table.old }
-    ensures answer { result ≡ any (λ x. admitted kind x v) (take held table.old) }
+    ensures answer { result ≡ any (λ x. admitted L.kind x v) (take held table.old) }
 {
     any_admits(&table[0..held], v)
 }

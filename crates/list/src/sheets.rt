@@ -3,7 +3,7 @@ ghost use Rattle.leaf.specs.Faults.{Fills, at_byte, number_of};
 ghost use Rattle.leaf.specs.Kind.{before};
 ghost use Rattle.list.specs.Held.{Leads, Sound, Tells, Unsettles, held_of, places_of, stopped};
 ghost use Rattle.list.specs.Runs.{Call, after};
-ghost use Rattle.list.specs.Runs.Call.{sheet as call-sheet};
+ghost use Rattle.list.specs.Runs.Call.{sheet as call_sheet};
 ghost use Rattle.list.specs.Sheets.{accepted_at, fed, put_in, sheet_outcome};
 
 use crate::leaves::Leaves;
@@ -39,7 +39,7 @@ impl<'a, V: Copy, L: Leaf<V>> Leaves<'a, V, L> {
         ensures table { self.new.table.ghost_name ≡ self.old.table.ghost_name }
         ensures places { places_of self.new ≡ places_of self.old }
         ensures within { IfOk result (λ e. (at < e) × (e ≤ length bytes.now)) }
-        ensures fills { Fills (put_in (before kind) (held_of self.old) (accepted_at kind (places_of self.old) bytes.now at (held_of self.old))) (held_of self.old) (held_of self.new) result }
+        ensures fills { Fills (put_in (before L.kind) (held_of self.old) (accepted_at L.kind (places_of self.old) bytes.now at (held_of self.old))) (held_of self.old) (held_of self.new) result }
         ensures flag { Unsettles self.old self.new }
     {
         let end = L::read(bytes, at, place)?;
@@ -53,8 +53,8 @@ impl<'a, V: Copy, L: Leaf<V>> Leaves<'a, V, L> {
     fn feed(&mut self, bytes: &[u8]) -> SheetAnswer
         ensures table { self.new.table.ghost_name ≡ self.old.table.ghost_name }
         ensures places { places_of self.new ≡ places_of self.old }
-        ensures answer { Tells result (fed kind (places_of self.old) bytes.now (length bytes.now) 1 (held_of self.old)) }
-        ensures held { held_of self.new ≡ (fed kind (places_of self.old) bytes.now (length bytes.now) 1 (held_of self.old)).held }
+        ensures answer { Tells result (fed L.kind (places_of self.old) bytes.now (length bytes.now) 1 (held_of self.old)) }
+        ensures held { held_of self.new ≡ (fed L.kind (places_of self.old) bytes.now (length bytes.now) 1 (held_of self.old)).held }
         ensures flag { Unsettles self.old self.new }
     {
         let mut place = L::blank();
@@ -86,10 +86,10 @@ impl<'a, V: Copy, L: Leaf<V>> Leaves<'a, V, L> {
     pub fn sheet(&mut self, bytes: &[u8]) -> SheetAnswer
         ensures table { self.new.table.ghost_name ≡ self.old.table.ghost_name }
         ensures places { places_of self.new ≡ places_of self.old }
-        ensures answer { Tells result (sheet_outcome kind (places_of self.old) bytes.now (held_of self.old)) }
-        ensures held { held_of self.new ≡ after kind (places_of self.old) (held_of self.old) (call-sheet bytes.now) }
-        ensures sound { Sound kind self.old → Sound kind self.new }
-        ensures run { (cs : List (Call V L)) → Leads kind cs self.old → Leads kind (cs ++ call-sheet bytes.now ∷ []) self.new }
+        ensures answer { Tells result (sheet_outcome L.kind (places_of self.old) bytes.now (held_of self.old)) }
+        ensures held { held_of self.new ≡ after L.kind (places_of self.old) (held_of self.old) (call_sheet bytes.now) }
+        ensures sound { Sound L.kind self.old → Sound L.kind self.new }
+        ensures run { (cs : List (Call V L)) → Leads L.kind cs self.old → Leads L.kind (cs ++ call_sheet bytes.now ∷ []) self.new }
     {
         if bytes.len() > SHEET_LIMIT {
             return refused_first(Refusal::TooLong);

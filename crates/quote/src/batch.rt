@@ -12,7 +12,7 @@ use sheets::is_of_days;
 use std::alloc::{AllocError, Global};
 use std::io;
 use std::io::Write;
-use text::append_line;
+use texts::append_line;
 
 const LINE_FEED: u8 = 10;
 

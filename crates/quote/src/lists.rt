@@ -3,7 +3,7 @@ use list::Leaves;
 use std::alloc::Global;
 use std::io;
 use std::io::Write;
-use text::{Line, append_line};
+use texts::{Line, append_line};
 
 // Writes the lines of a list, numbered from 1, and answers how many they are.
 pub(crate) fn write_lines<W: Write, V: Copy, L: Leaf<V> + Line>(

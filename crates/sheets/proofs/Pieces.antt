@@ -2,7 +2,7 @@
 use Rattle.std.proofs.Common.{◌≡◌, ℕ, List, [], ◌∷◌, ◌++◌, Option, ap, ◌∙◌}
 use Rattle.leaf.specs.Faults.{Refused}
 use Rattle.leaf.specs.Kind.{Kind}
-use Rattle.text.specs.Text.{together}
+use Rattle.texts.specs.Text.{together}
 use Rattle.list.specs.Runs.{lines}
 use Rattle.list.specs.Runs.Call.{sheet}
 use Rattle.list.specs.Sheets.{sheet_outcome}

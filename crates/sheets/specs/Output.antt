@@ -2,8 +2,8 @@
 use Rattle.std.specs.Prelude.{◌≡◌, ℕ, Bool, true, false, List, [], ◌∷◌, ◌++◌, Some, None, vec_items, Option}
 use Rattle.leaf.specs.Faults.{Refused}
 use Rattle.leaf.specs.Kind.{Kind}
-use Rattle.text.specs.Refusals.{refusal_text}
-use Rattle.text.specs.Text.{together}
+use Rattle.texts.specs.Refusals.{refusal_text}
+use Rattle.texts.specs.Text.{together}
 use Rattle.list.specs.Held.{Tells}
 use Rattle.list.specs.Runs.{lines}
 use Rattle.list.specs.Runs.Call.{sheet}

@@ -8,7 +8,7 @@ ghost use Rattle.sheets.specs.Output.{Prints, stop_text};
 use leaf::{Fault, Leaf};
 use list::{Leaves, SheetAnswer};
 use std::alloc::{AllocError, Global};
-use text::{Line, append_line, append_lines};
+use texts::{Line, append_line, append_lines};
 
 // What a sheet came to: the list's answer, and the lines and what refused it as text.
 #[derive(Drop)]
@@ -27,8 +27,8 @@ struct Taken {
 // Takes the sheet into a new list in the table: the lines then stand in front in it.
 fn take_sheet<V: Copy, L: Leaf<V>>(table: &mut [L], sheet: &[u8]) -> Taken
     ensures within { result.count ≤ length table.new }
-    ensures answer { Tells result.answer (sheet_outcome kind (length table.old) sheet.now []) }
-    ensures promised { Promised kind (length table.old) (call-sheet sheet.now ∷ []) (take result.count table.new) }
+    ensures answer { Tells result.answer (sheet_outcome L.kind (length table.old) sheet.now []) }
+    ensures promised { Promised L.kind (length table.old) (call-sheet sheet.now ∷ []) (take result.count table.new) }
 {
     let mut list = Leaves::open(table);
     let answer = list.sheet(sheet);
@@ -52,7 +52,7 @@ pub(crate) fn output_of<V: Copy, L: Leaf<V> + Line>(
     table: &mut [L],
     sheet: &[u8],
 ) -> Result<Printed, AllocError>
-    ensures { IfOk result (λ p. Prints kind L.Line.text (length table.old) sheet.now p) }
+    ensures { IfOk result (λ p. Prints L.kind L.Line.text (length table.old) sheet.now p) }
 {
     let taken = take_sheet(table, sheet);
     let answer = taken.answer;

@@ -1,8 +1,4 @@
-use mathlib.Core.Path.{◌≡◌, ap, subst, ◌∙◌}
-use mathlib.Core.List.{List, [], ◌∷◌}
-use Prim.Native.Nat.{ℕ}
-use borrow.Author.Rules.{rules}
-use lib.ListN.{length}
+use Rattle.std.proofs.Common.{ℕ, [], ◌∷◌, length, ap, ◌∙◌, subst, rules}
 use Rattle.list.specs.Runs.{Promised}
 use Rattle.list.specs.Held.{held_of}
 use Rattle.list.specs.Runs.Call.{insert, sheet}

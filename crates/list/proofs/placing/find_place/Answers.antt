@@ -7,12 +7,12 @@ pub loop-at-init : goal.loop-at-init
 loop-at-init g c = (omega arith, later_none (before g.L.Leaf.kind) c.args.leaf.now c.args.held.now)
 
 pub loop-at-preserved : goal.loop-at-preserved
-loop-at-preserved g c = (omega arith, later_more (before g.L.Leaf.kind) c.args.leaf.now c.args.held.now _ _ c.loop-at-test.true c.loop-at.invariant.0 c.index-held-at.is c.if-goes-behind.ensures c.loop-at.invariant.1)
+loop-at-preserved g c = (omega arith, later_more (before g.L.Leaf.kind) c.args.leaf.now c.args.held.now _ _ c.loop-at-test.true c.loop-at.invariant.0 c.index-held-at.is c.if-goes_behind.ensures c.loop-at.invariant.1)
 
-pub returns-then-goes-behind : goal.returns-then-goes-behind
-returns-then-goes-behind g c = record {
+pub returns-then-goes_behind : goal.returns-then-goes_behind
+returns-then-goes_behind g c = record {
   within = c.loop-at.invariant.0;
-  place = put_behind (before g.L.Leaf.kind) c.args.leaf.now c.args.held.now _ _ c.loop-at-test.true c.loop-at.invariant.0 c.index-held-at.is c.if-goes-behind.ensures c.loop-at.invariant.1;
+  place = put_behind (before g.L.Leaf.kind) c.args.leaf.now c.args.held.now _ _ c.loop-at-test.true c.loop-at.invariant.0 c.index-held-at.is c.if-goes_behind.ensures c.loop-at.invariant.1;
 }
 
 pub returns : goal.returns

@@ -4,4 +4,4 @@ use Rattle.list.proofs.Searches.{placed}
 use Rattle.list.proofs.placing.place.Goals as goal
 
 pub returns : goal.returns
-returns g c = placed (before g.L.Leaf.kind) c.args.leaf c.args.table.now c.shift-in.new.table c.args.held _ c.find-place-at.result (omega arith) c.find-place-at.ensures.place c.shift-in.ensures
+returns g c = placed (before g.L.Leaf.kind) c.args.leaf c.args.table.now c.shift_in.new.table c.args.held _ c.find_place-at.result (omega arith) c.find_place-at.ensures.place c.shift_in.ensures

@@ -1,9 +1,9 @@
 use Rattle.std.proofs.Common.{◌≡◌, ◌≤◌, length, take, sym, refl, ap, ◌∙◌, arith, rules}
-use Rattle.std.proofs.lemmas.Bool.{cond-true, cond-false, both_ways}
+use Rattle.std.proofs.lemmas.Bool.{cond-true, cond-false}
 use Rattle.std.proofs.lemmas.List.{length-take-le}
 use Rattle.list.specs.Runs.{reading}
 use Rattle.list.specs.Runs.Call.{count}
-use Rattle.list.specs.Held.{held_of, places_of, Settled}
+use Rattle.list.specs.Held.{held_of, Settled}
 use Rattle.list.proofs.Calls.{cut, cut_length, cut_within}
 use Rattle.list.proofs.Steps.{sound_read, leads_read, read_promised}
 use Rattle.list.proofs.leaves.Leaves.count.Goals as goal
@@ -32,19 +32,19 @@ returns g c =
     let k = g.L.Leaf.kind in
     let w = g.met.L.Leaf.lawfully in
     let l = c.args.self.now in
-    let t' = c.read-held-left.new.table in
+    let t' = c.read_held-left.new.table in
     let long : length t' ≡ length l.table.now = search rules in
-    let lines = c.read-held-left.ensures.lines ∙ ap (reading k) (cut l.table.now l.held c.min-held.result c.min-held.ensures) in
-    let fits : c.read-held-left.result ≤ length t' = omega (arith, cut_within l.table.now l.held c.min-held.result c.min-held.ensures) in
+    let lines = c.read_held-left.ensures.lines ∙ ap (reading k) (cut l.table.now l.held c.min-held.result c.min-held.ensures) in
+    let fits : c.read_held-left.result ≤ length t' = omega (arith, cut_within l.table.now l.held c.min-held.result c.min-held.ensures) in
     record {
       table = refl;
       places = long;
-      answer = sym (length-take-le c.read-held-left.result t' fits);
+      answer = sym (length-take-le c.read_held-left.result t' fits);
       within = fits;
       shown = refl;
       held = lines ∙ sym (cond-false _ _ _ c.if-self.false);
       lines = λ _. lines;
       sound = sound_read k w l _ long (λ _. lines);
       run = leads_read k w l _ long (λ _. lines) count (λ n h. refl) tt;
-      promises = read_promised k w l (take c.read-held-left.result t') (λ _. lines);
+      promises = read_promised k w l (take c.read_held-left.result t') (λ _. lines);
     }

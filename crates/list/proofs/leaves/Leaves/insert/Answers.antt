@@ -1,4 +1,4 @@
-use Rattle.std.proofs.Common.{◌≡◌, Bool, true, false, cond, not, Some, None, Option, sym, refl, ap, ◌∙◌}
+use Rattle.std.proofs.Common.{◌≡◌, Bool, true, false, cond, not, Some, None, Option, refl, ap, ◌∙◌}
 use Rattle.leaf.specs.Faults.{Refused, unplaced}
 use Rattle.list.specs.Sheets.{is_full}
 use Rattle.list.specs.Held.{held_of, places_of}

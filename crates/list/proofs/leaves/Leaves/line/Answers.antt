@@ -1,10 +1,10 @@
-use Rattle.std.proofs.Common.{◌≡◌, ◌<◌, ◌≤◌, min, length, get_or, take, sym, refl, ap, ◌∙◌, arith, length-take}
+use Rattle.std.proofs.Common.{◌<◌, ◌≤◌, length, sym, refl, ◌∙◌, arith, length-take}
 use native.Mathlib.Nat.{min-le_left}
 use Rattle.std.proofs.lemmas.List.{get_or-take, get_or_default, get_or_past}
 use Rattle.std.proofs.lemmas.Bool.{lt-ltb, le-ltb}
 use Rattle.list.specs.Runs.Call.{line}
-use Rattle.list.specs.Held.{held_of, places_of, Settled}
-use Rattle.list.proofs.Steps.{sound_read, leads_read, read_promised}
+use Rattle.list.specs.Held.{held_of}
+use Rattle.list.proofs.Steps.{leads_read}
 use Rattle.list.proofs.leaves.Leaves.line.Goals as goal
 
 pub returns-then-n-count : goal.returns-then-n-count

@@ -1,8 +1,8 @@
 use Rattle.std.proofs.Common.{ℕ, List, sym, subst, arith}
 use Rattle.std.proofs.lemmas.List.{take_all, take_more}
-use Rattle.text.specs.Text.{Wrote}
-use Rattle.text.proofs.Writes.{wrote_none, wrote_then}
-use Rattle.text.proofs.put.put_bytes.Goals as goal
+use Rattle.texts.specs.Text.{Wrote}
+use Rattle.texts.proofs.Writes.{wrote_none, wrote_then}
+use Rattle.texts.proofs.put.put_bytes.Goals as goal
 
 pub loop-b-init : goal.loop-b-init
 loop-b-init c = wrote_none _ _

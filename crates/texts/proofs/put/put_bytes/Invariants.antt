@@ -1,6 +1,6 @@
 use Rattle.std.proofs.Common.{take}
-use Rattle.text.specs.Text.{Wrote}
-use Rattle.text.proofs.put.put_bytes.Given as goal
+use Rattle.texts.specs.Text.{Wrote}
+use Rattle.texts.proofs.put.put_bytes.Given as goal
 
 -- the text so far
 abbrev pub invariant-loop-b : goal.invariant-loop-b

@@ -2,7 +2,7 @@
 use Rattle.std.proofs.Common.{◌≡◌, ℕ, ◌+◌, ◌<◌, ◌≤◌, List, [], ◌∷◌, ◌++◌, length, get_or, take, drop, Ok, Result, sym, ap, ◌∙◌, arith}
 use Rattle.std.proofs.lemmas.List.{append_assoc, append-nil, length-append, length-drop, take_at, take_more}
 use Rattle.leaf.specs.declared.fault.Fault.{Fault}
-use Rattle.text.specs.Text.{Texted, together}
+use Rattle.texts.specs.Text.{Texted, together}
 
 -- what was written into a buffer of 600 bytes ends in it, and stands in front
 module _ (t old new : List ℕ) (r : Result ℕ Fault) (e : ℕ) (w : Texted t old new r) (room : 600 ≤ length old) (same : length new ≡ length old) (is : r ≡ Ok e) where

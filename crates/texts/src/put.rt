@@ -1,5 +1,5 @@
 ghost use Rattle.std.specs.Prelude.{◌≡◌, ◌≤◌, [], ◌∷◌, length, decimal, nat_le};
-ghost use Rattle.text.specs.Text.{Wrote};
+ghost use Rattle.texts.specs.Text.{Wrote};
 
 // The shortest buffer for a line.
 pub(crate) const ROOM: usize = 600;

@@ -1,7 +1,7 @@
 use Rattle.std.proofs.Common.{codes, decimal, arith}
 use Rattle.std.proofs.lemmas.List.{length-append}
-use Rattle.text.proofs.Writes.{wrote_none, wrote_then}
-use Rattle.text.proofs.refusals.put_place.Goals as goal
+use Rattle.texts.proofs.Writes.{wrote_none, wrote_then}
+use Rattle.texts.proofs.refusals.put_place.Goals as goal
 
 pub returns-in_default : goal.returns-in_default
 returns-in_default c = rw c.in_default.is (record { wrote = wrote_none c.args.buf.now c.args.at; short = omega arith })

@@ -1,6 +1,6 @@
 ghost use Rattle.std.specs.Prelude.{◌≤◌, length};
-ghost use Rattle.text.specs.Refusals.{place_text, refusal_text};
-ghost use Rattle.text.specs.Text.{Wrote};
+ghost use Rattle.texts.specs.Refusals.{place_text, refusal_text};
+ghost use Rattle.texts.specs.Text.{Wrote};
 ghost use Rattle.leaf.specs.Faults.{shown};
 
 use crate::lines::Line;

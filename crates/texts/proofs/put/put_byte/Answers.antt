@@ -1,5 +1,5 @@
-use Rattle.text.proofs.Writes.{wrote_byte, wrote_nothing}
-use Rattle.text.proofs.put.put_byte.Goals as goal
+use Rattle.texts.proofs.Writes.{wrote_byte, wrote_nothing}
+use Rattle.texts.proofs.put.put_byte.Goals as goal
 
 pub returns-then-at-buf : goal.returns-then-at-buf
 returns-then-at-buf c = wrote_byte _ _ _ c.if-at-buf.true

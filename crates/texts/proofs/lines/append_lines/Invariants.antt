@@ -1,6 +1,6 @@
 use Rattle.std.proofs.Common.{◌≡◌, ◌++◌, take, vec_items}
-use Rattle.text.specs.Text.{together}
-use Rattle.text.proofs.lines.append_lines.Given as goal
+use Rattle.texts.specs.Text.{together}
+use Rattle.texts.proofs.lines.append_lines.Given as goal
 
 -- the lines so far
 abbrev pub invariant-loop-line : goal.invariant-loop-line

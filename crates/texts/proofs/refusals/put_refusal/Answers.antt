@@ -1,9 +1,9 @@
 use Rattle.std.proofs.Common.{ℕ, List, [], ◌∷◌, ◌++◌, length, codes, decimal, ap, ◌∙◌, subst, arith}
 use Rattle.std.proofs.lemmas.List.{length-append}
-use Rattle.text.specs.Refusals.{place_text, refusal_text}
-use Rattle.text.specs.Text.{Wrote}
-use Rattle.text.proofs.Writes.{wrote_then}
-use Rattle.text.proofs.refusals.put_refusal.Goals as goal
+use Rattle.texts.specs.Refusals.{place_text, refusal_text}
+use Rattle.texts.specs.Text.{Wrote}
+use Rattle.texts.proofs.Writes.{wrote_then}
+use Rattle.texts.proofs.refusals.put_refusal.Goals as goal
 
 pub returns : goal.returns
 unfolding refusal_text

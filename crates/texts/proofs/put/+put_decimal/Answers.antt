@@ -1,7 +1,7 @@
 use Rattle.std.proofs.Common.{arith, rules}
 use Rattle.std.proofs.lemmas.Fmt.{decimal_digit, decimal_step, length-decimal-le}
-use Rattle.text.proofs.Writes.{wrote_then}
-use Rattle.text.proofs.put.+put_decimal.Goals as goal
+use Rattle.texts.proofs.Writes.{wrote_then}
+use Rattle.texts.proofs.put.+put_decimal.Goals as goal
 
 pub returns-then-n-lt10 : goal.returns-then-n-lt10
 returns-then-n-lt10 t c =

@@ -1,5 +1,5 @@
 ghost use Rattle.std.specs.Prelude.{◌≡◌, ℕ, List, ◌++◌, OnOk};
-ghost use Rattle.text.specs.Text.{Texted, together};
+ghost use Rattle.texts.specs.Text.{Texted, together};
 
 use crate::put::ROOM;
 use leaf::Fault;

@@ -2,7 +2,7 @@
 use Rattle.std.proofs.Common.{◌≡◌, ℕ, zero, suc, ◌+◌, ◌-◌, ◌<◌, ◌≤◌, true, leb, List, [], ◌∷◌, ◌++◌, length, take, drop, set, Ok, sym, refl, ap, ◌∙◌, ⊎_elim, zero-add, add-one, arith}
 use Rattle.std.proofs.lemmas.List.{append_assoc, take_all, take-append-drop, length-append, length-take-le, take_at, drop_at, drop-drop, set_split, length-take, length-drop}
 use Rattle.std.proofs.lemmas.Bool.{cases_lt, leb-true}
-use Rattle.text.specs.Text.{Texted, Wrote, fitting, over}
+use Rattle.texts.specs.Text.{Texted, Wrote, fitting, over}
 
 none_over : (old : List ℕ) (at : ℕ) → old ≡ over old at []
 none_over old at = sym (take-append-drop at old) ∙ ap (λ (k : ℕ). take at old ++ drop k old) (let e : at ≡ at + 0 = omega arith in e)
