@@ -1,7 +1,7 @@
 -- Where months and years start.
 use Rattle.std.specs.Prelude.{◌≡◌, ℕ, zero, suc, ◌+◌, ◌-◌, ◌<◌, ◌≤◌, Bool, true, false, ◌⊎◌, List, [], ◌∷◌, map, length, slice_index, refl}
 use Rattle.std.proofs.Common.{sym, ap, ◌∙◌, inl, inr, arith, add-one}
-use Rattle.std.specs.List.{AllByRecursion as All}
+use Rattle.std.specs.List.{AllByRecursion}
 use Rattle.std.proofs.lemmas.Bool.{true≢false}
 use Rattle.days.specs.Calendar.{before, leap, lengths, month_days, sums, year_start}
 
@@ -48,7 +48,7 @@ table_early false m h = refl
 table_early true m (inl e) = absurd (true≢false e)
 table_early true m (inr h) = first_two (m - 1) (omega arith)
 
-below : (k : ℕ) (xs : List ℕ) → All (λ x. x ≤ k) xs → (i : ℕ) → slice_index xs i ≤ k
+below : (k : ℕ) (xs : List ℕ) → AllByRecursion (λ x. x ≤ k) xs → (i : ℕ) → slice_index xs i ≤ k
 below k [] h i = omega arith
 below k (x ∷ xs) h zero = h.0
 below k (x ∷ xs) h (suc i) = below k xs h.1 i
