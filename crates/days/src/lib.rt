@@ -4,8 +4,8 @@
 mod calendar;
 mod day_leaf;
 mod kind;
-mod line;
 mod reader;
+mod text;
 mod weekdays;
 
 pub use calendar::{Date, date_of, day_number};

@@ -1,8 +1,8 @@
 use Rattle.std.proofs.Common.{ℕ, List, sym, ap, ◌∙◌, subst}
-use Rattle.text.specs.Text.{Wrote}
+use Rattle.texts.specs.Text.{Wrote}
 use Rattle.days.specs.Text.{bound_text}
 use Rattle.days.proofs.Texts.{bound_short, date_text_lem}
-use Rattle.days.proofs.line.put_bound.Goals as goal
+use Rattle.days.proofs.text.put_bound.Goals as goal
 
 pub returns-in-Some-date_of : goal.returns-in-Some-date_of
 returns-in-Some-date_of c =

@@ -1,8 +1,8 @@
 use Rattle.std.proofs.Common.{[], ◌∷◌, ◌++◌, arith}
 use Rattle.std.proofs.lemmas.List.{length-append}
-use Rattle.text.proofs.Writes.{wrote_then}
+use Rattle.texts.proofs.Writes.{wrote_then}
 use Rattle.days.specs.Text.{bound_text, weekdays_text}
-use Rattle.days.proofs.line.put_line.Goals as goal
+use Rattle.days.proofs.text.put_line.Goals as goal
 
 pub returns : goal.returns
 returns c =

@@ -1,9 +1,9 @@
 use Rattle.std.proofs.Common.{◌≡◌, ℕ, sym, subst, add-one, arith}
-use Rattle.text.specs.Text.{Wrote}
-use Rattle.text.proofs.Writes.{wrote_none, wrote_then}
+use Rattle.texts.specs.Text.{Wrote}
+use Rattle.texts.proofs.Writes.{wrote_none, wrote_then}
 use Rattle.days.specs.Text.{weekdays_text}
 use Rattle.days.proofs.Texts.{weekdays_short}
-use Rattle.days.proofs.line.put_weekdays.Goals as goal
+use Rattle.days.proofs.text.put_weekdays.Goals as goal
 
 pub loop-k-init : goal.loop-k-init
 loop-k-init c = wrote_none _ _

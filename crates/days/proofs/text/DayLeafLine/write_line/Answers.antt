@@ -1,6 +1,6 @@
-use Rattle.text.proofs.Writes.{texted}
+use Rattle.texts.proofs.Writes.{texted}
 use Rattle.days.specs.Text.{line_text}
-use Rattle.days.proofs.line.DayLeafLine.write_line.Goals as goal
+use Rattle.days.proofs.text.DayLeafLine.write_line.Goals as goal
 
 pub returns : goal.returns
 unfolding line_text

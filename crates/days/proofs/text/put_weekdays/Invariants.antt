@@ -1,6 +1,6 @@
 use Rattle.days.specs.Text.{weekdays_text}
-use Rattle.text.specs.Text.{Wrote}
-use Rattle.days.proofs.line.put_weekdays.Given as goal
+use Rattle.texts.specs.Text.{Wrote}
+use Rattle.days.proofs.text.put_weekdays.Given as goal
 
 -- the weekdays so far
 abbrev pub invariant-loop-k : goal.invariant-loop-k

@@ -1,5 +1,5 @@
-use Rattle.text.proofs.Writes.{wrote_then}
-use Rattle.days.proofs.line.put_date.Goals as goal
+use Rattle.texts.proofs.Writes.{wrote_then}
+use Rattle.days.proofs.text.put_date.Goals as goal
 
 pub returns : goal.returns
 returns c =

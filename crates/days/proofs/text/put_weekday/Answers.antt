@@ -1,9 +1,9 @@
 use Rattle.std.proofs.Common.{ℕ, ◌+◌, List, [], ◌∷◌, sym, subst}
 use Rattle.std.proofs.lemmas.Bool.{cond-false}
 use Rattle.leaf.specs.Numbers.{has_bit}
-use Rattle.text.specs.Text.{Wrote}
-use Rattle.text.proofs.Writes.{wrote_none}
-use Rattle.days.proofs.line.put_weekday.Goals as goal
+use Rattle.texts.specs.Text.{Wrote}
+use Rattle.texts.proofs.Writes.{wrote_none}
+use Rattle.days.proofs.text.put_weekday.Goals as goal
 
 pub returns-else-has_flag : goal.returns-else-has_flag
 returns-else-has_flag c =

@@ -1,11 +1,11 @@
 ghost use Rattle.std.specs.Prelude.{◌<◌, ◌≤◌, length};
 ghost use Rattle.days.specs.Text.{bound_text, date_text, line_text, text_of, two_digits, weekday_text, weekdays_text};
-ghost use Rattle.text.specs.Text.{Wrote};
+ghost use Rattle.texts.specs.Text.{Wrote};
 
 use crate::calendar::{Date, date_of};
 use crate::day_leaf::DayLeaf;
 use leaf::{Fault, Refusal, has_flag};
-use text::{Line, has_room, put_byte};
+use texts::{Line, has_room, put_byte};
 
 // Each function writes at `at` and answers where its text ends; `short` says how long its text is at most.
 fn put_two_digits(buf: &mut [u8], at: usize, n: u64) -> usize
