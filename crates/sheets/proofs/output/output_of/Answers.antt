@@ -1,4 +1,4 @@
-use Rattle.std.proofs.Common.{◌≡◌, ℕ, List, ◌++◌, take, vec_items, rules}
+use Rattle.std.proofs.Common.{◌≡◌, ◌++◌, take, vec_items, rules}
 use Rattle.texts.specs.Text.{together}
 use Rattle.sheets.proofs.Pieces.{printed}
 use Rattle.sheets.proofs.output.output_of.Goals as goal

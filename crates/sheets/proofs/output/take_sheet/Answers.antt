@@ -1,4 +1,4 @@
-use Rattle.std.proofs.Common.{◌≡◌, ℕ, List, [], ◌∷◌, length, ap, ◌∙◌, subst, rules}
+use Rattle.std.proofs.Common.{◌≡◌, ℕ, [], ◌∷◌, length, ap, ◌∙◌, subst, rules}
 use Rattle.list.specs.Held.{Tells, held_of}
 use Rattle.list.specs.Runs.{Promised}
 use Rattle.list.specs.Runs.Call.{sheet}
