@@ -61,7 +61,7 @@ fn set_at(sheet: &[u8], start: usize) -> Result<(u8, usize), Fault>
 }
 
 // The leaf whose flags stand at `start`, and the place past it.
-fn leaf_at(sheet: &[u8], start: usize) -> Result<(DayLeaf, usize), Fault>
+pub(crate) fn leaf_at(sheet: &[u8], start: usize) -> Result<(DayLeaf, usize), Fault>
     ensures { seen result ≡ leaf_at sheet.now start }
 {
     let (flags, at_bounds) = flags_at(sheet, start)?;

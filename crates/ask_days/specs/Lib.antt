@@ -1,0 +1,5 @@
+pub mod Outcomes
+pub mod Splitting
+pub mod DayTexts
+pub mod Questions
+pub mod Lines
