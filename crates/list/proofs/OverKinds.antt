@@ -4,7 +4,7 @@ use Rattle.std.proofs.lemmas.Bool.{cases_Bool, both_ways, and_parts, and_from, a
 use Rattle.list.specs.Lists.{Any, Pairs}
 use Rattle.list.proofs.Core.{Ops, Laws, Lt, Same, Within, Gap, Up}
 use Rattle.list.proofs.Core
-use Rattle.leaf.specs.Kind.{Kind, Laws as Kind-laws, Ext, ext_le, from, upto, none_below, gapless, same_rule, touches, admits, before, join, is_bound}
+use Rattle.leaf.specs.Kind.{Kind, Laws as KindLaws, Ext, ext_le, from, upto, none_below, gapless, same_rule, touches, admits, before, join, is_bound}
 use Rattle.leaf.proofs.Hulls.{join_joins}
 use Rattle.list.specs.Readings.{InWindow, Holds, Between, Apart, Made}
 use Rattle.leaf.specs.Kind.Ext.{bottom, value, top}
@@ -31,7 +31,7 @@ module _ {V L : Type 0} (m : Kind V L) where
     rcov = m.rule_covers;
   }
 
-module _ {V L : Type 0} (m : Kind V L) (k : Kind-laws m) where
+module _ {V L : Type 0} (m : Kind V L) (k : KindLaws m) where
   ext_total : (a b : Ext V) → ext_le m.le a b ≡ false → ext_le m.le b a ≡ true
   ext_total bottom b h = absurd (true≢false h)
   ext_total (value a) bottom h = refl

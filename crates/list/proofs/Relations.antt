@@ -1,7 +1,7 @@
 -- A reading as a relation: it holds of what is read, and has one answer.
 use Rattle.std.proofs.Common.{◌≡◌, true, ◌⊎◌, ◌↔◌, List, sym, subst, inl, inr}
 use Rattle.std.proofs.lemmas.Bool.{cases_Bool, both_ways}
-use Rattle.leaf.specs.Kind.{Kind, Laws as Kind-laws, Lawful, same_rule, admits, covers}
+use Rattle.leaf.specs.Kind.{Kind, Laws as KindLaws, Lawful, same_rule, admits, covers}
 use Rattle.leaf.specs.Kind.Ext.{value}
 use Rattle.list.specs.Lists.{All, Any, In, Pairs}
 use Rattle.list.specs.Readings.{InWindow, Holds, Merged, Uncovered, Reads, OneReading}
@@ -116,7 +116,7 @@ module _ {E L : Type 0} (o : Ops E L) (k : Laws o) where
   merges_one xs ys i j p q f a b =
       apart_unique i j a.0 b.0 a.1 b.1 (same_window xs ys i j p q f a b) (same_window ys xs j i q p (λ x. ((f x).1, (f x).0)) b a)
 
-module _ {V L : Type 0} (k : Kind V L) (w : Kind-laws k) where
+module _ {V L : Type 0} (k : Kind V L) (w : KindLaws k) where
   -- what is made of leaves admits no more than they
   pub made_admits : (xs ys : List L) → All (Lawful k) xs → All (Lawful k) ys → All (Readings.Made k xs) ys → (v : V) → Admitted k ys v → Admitted k xs v
   made_admits xs ys p q h v i =
