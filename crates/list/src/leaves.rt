@@ -122,6 +122,7 @@ impl<'a, V: Copy, L: Leaf<V>> Leaves<'a, V, L> {
         ensures shown { take result self.new.table.now ≡ held_of self.new }
         ensures held { held_of self.new ≡ (if self.old.canonical then held_of self.old else reading L.kind (held_of self.old)) }
         ensures lines { Settled L.kind self.old → held_of self.new ≡ reading L.kind (held_of self.old) }
+        ensures read { self.new.canonical ≡ true }
         ensures sound { Sound L.kind self.old → Sound L.kind self.new }
         ensures run { (cs : List (Call V L)) → Leads L.kind cs self.old → Leads L.kind (cs ++ call_count ∷ []) self.new }
         ensures promises { (cs : List (Call V L)) → Leads L.kind cs self.old → Promised L.kind (places_of self.old) cs (held_of self.new) }
@@ -144,6 +145,7 @@ impl<'a, V: Copy, L: Leaf<V>> Leaves<'a, V, L> {
         ensures filled { place.new ≡ slice_index_or (held_of self.new) n place.old }
         ensures held { held_of self.new ≡ (if self.old.canonical then held_of self.old else reading L.kind (held_of self.old)) }
         ensures lines { Settled L.kind self.old → held_of self.new ≡ reading L.kind (held_of self.old) }
+        ensures read { self.new.canonical ≡ true }
         ensures sound { Sound L.kind self.old → Sound L.kind self.new }
         ensures run { (cs : List (Call V L)) → Leads L.kind cs self.old → Leads L.kind (cs ++ call_line n ∷ []) self.new }
         ensures promises { (cs : List (Call V L)) → Leads L.kind cs self.old → Promised L.kind (places_of self.old) cs (held_of self.new) }
