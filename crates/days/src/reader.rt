@@ -1,76 +1,90 @@
 ghost use Rattle.days.specs.Meaning.{ReadMeans};
 ghost use Rattle.days.specs.Reading.{bound_at, bounds_at, flags_at, leaf_at, set_at};
 ghost use Rattle.leaf.specs.Faults.{seen};
+ghost use Rattle.leaf.specs.Reading.{Reads};
 ghost use Rattle.std.specs.Prelude.{◌≡◌, length, drop};
 
 use crate::calendar::day_number;
 use crate::day_leaf::{DayLeaf, is_window};
 use crate::weekdays::is_set;
-use leaf::{Bounds, Fault, Refusal, has_flag, number, rest_of};
+use leaf::{Bounds, Fault, Reader, Refusal, has_flag, rest_of};
 
 // The flags up to which a byte may be one.
 const FLAGS: u8 = 4;
 
-// The flags at `start`, and the place past them.
-fn flags_at(sheet: &[u8], start: usize) -> Result<(u8, usize), Fault>
-    ensures { seen result ≡ flags_at (length sheet.now) start (drop start sheet.now) }
+// The flags byte.
+fn flags(reader: &mut Reader<'_>) -> Result<u8, Fault>
+    ensures { Reads (λ s at. flags_at (length s) at (drop at s)) reader.old reader.new result }
 {
-    let [flags, ..] = rest_of(sheet, start) else {
-        return Err(Fault::at(Refusal::EndsEarly, sheet.len()));
+    let [flags, ..] = rest_of(reader.sheet, reader.at) else {
+        return Err(Fault::at(Refusal::EndsEarly, reader.sheet.len()));
     };
     if *flags >= FLAGS {
-        return Err(Fault::at(Refusal::UnknownByte, start));
+        return Err(Fault::at(Refusal::UnknownByte, reader.at));
     }
-    Ok((*flags, start + 1))
+    reader.at += 1;
+    Ok(*flags)
 }
 
 // A bound that is present is a year, a month and a day: no such day is named at its year.
-fn bound_at(present: bool, sheet: &[u8], start: usize) -> Result<(Option<u32>, usize), Fault>
-    ensures { seen result ≡ bound_at present sheet.now start }
+fn bound(reader: &mut Reader<'_>, present: bool) -> Result<Option<u32>, Fault>
+    ensures { Reads (bound_at present) reader.old reader.new result }
 {
     if !present {
-        return Ok((None, start));
+        return Ok(None);
     }
-    let (year, at_month) = number(sheet, start)?;
-    let (month, at_day) = number(sheet, at_month)?;
-    let (day, end) = number(sheet, at_day)?;
+    let start = reader.at;
+    let year = reader.number()?;
+    let month = reader.number()?;
+    let day = reader.number()?;
     match day_number(year, month, day) {
         None => Err(Fault::at(Refusal::OutOfRange, start)),
-        Some(n) => Ok((Some(n), end)),
+        Some(n) => Ok(Some(n)),
     }
 }
 
 // The bounds that the flags say are present, minimum first.
-fn bounds_at(flags: u8, sheet: &[u8], start: usize) -> Result<(Bounds<u32>, usize), Fault>
-    ensures { seen result ≡ bounds_at flags sheet.now start }
+fn bounds(reader: &mut Reader<'_>, flags: u8) -> Result<Bounds<u32>, Fault>
+    ensures { Reads (bounds_at flags) reader.old reader.new result }
 {
-    let (minimum, at_high) = bound_at(has_flag(flags, 0), sheet, start)?;
-    let (maximum, end) = bound_at(has_flag(flags, 1), sheet, at_high)?;
-    Ok((Bounds { minimum, maximum }, end))
+    let minimum = bound(reader, has_flag(flags, 0))?;
+    let maximum = bound(reader, has_flag(flags, 1))?;
+    Ok(Bounds { minimum, maximum })
 }
 
-// The weekday set at `start`.
-fn set_at(sheet: &[u8], start: usize) -> Result<(u8, usize), Fault>
-    ensures { seen result ≡ set_at sheet.now start }
+// The weekday set.
+fn weekday_set(reader: &mut Reader<'_>) -> Result<u8, Fault>
+    ensures { Reads set_at reader.old reader.new result }
 {
-    let (set, end) = number(sheet, start)?;
+    let start = reader.at;
+    let set = reader.number()?;
     if !is_set(set) {
         return Err(Fault::at(Refusal::BadWeekdays, start));
     }
-    Ok((set as u8, end))
+    Ok(set as u8)
+}
+
+// The leaf whose flags stand here.
+fn leaf(reader: &mut Reader<'_>) -> Result<DayLeaf, Fault>
+    ensures { Reads leaf_at reader.old reader.new result }
+{
+    let start = reader.at;
+    let flags = flags(reader)?;
+    let bounds = bounds(reader, flags)?;
+    let weekdays = weekday_set(reader)?;
+    if !is_window(bounds.minimum, bounds.maximum) {
+        return Err(Fault::at(Refusal::MinAboveMax, start));
+    }
+    Ok(DayLeaf { bounds, weekdays })
 }
 
 // The leaf whose flags stand at `start`, and the place past it.
 pub(crate) fn leaf_at(sheet: &[u8], start: usize) -> Result<(DayLeaf, usize), Fault>
     ensures { seen result ≡ leaf_at sheet.now start }
 {
-    let (flags, at_bounds) = flags_at(sheet, start)?;
-    let (bounds, at_set) = bounds_at(flags, sheet, at_bounds)?;
-    let (weekdays, end) = set_at(sheet, at_set)?;
-    if !is_window(bounds.minimum, bounds.maximum) {
-        return Err(Fault::at(Refusal::MinAboveMax, start));
-    }
-    Ok((DayLeaf { bounds, weekdays }, end))
+    let mut reader = Reader { sheet, at: start };
+    let read = leaf(&mut reader)?;
+    Ok((read, reader.at))
 }
 
 // The same, with what the leaf means.

@@ -2,3 +2,4 @@ pub mod Faults
 pub mod Numbers
 pub mod Encoding
 pub mod Kind
+pub mod Reading

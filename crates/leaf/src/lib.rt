@@ -5,10 +5,12 @@ mod bounds;
 mod fault;
 mod kind;
 mod numbers;
+mod reader;
 mod sheet;
 
 pub use bounds::{Bounds, contains, hull, includes};
 pub use fault::{Fault, Layer, Refusal};
 pub use kind::{Leaf, adjoins, admits, bounds_of, covers, join, no_later};
 pub use numbers::number;
+pub use reader::Reader;
 pub use sheet::{has_flag, rest_of};
