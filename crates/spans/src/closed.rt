@@ -1,13 +1,13 @@
-ghost use Rattle.leaf.specs.Faults.{seen};
 ghost use Rattle.leaf.specs.Kind.{ext_le, from};
+ghost use Rattle.leaf.specs.Reading.{Reads};
 ghost use Rattle.spans.specs.Closed.{closed, closing_at, is_shut, part_of};
 ghost use Rattle.std.specs.Prelude.{◌≡◌, nat_le};
 ghost use Rattle.spans.specs.Without.{closed_laws};
 
-use leaf::{Bounds, Fault, Leaf, Refusal, number};
+use leaf::{Bounds, Fault, Leaf, Reader, Refusal};
 
-// The day to leave out, if there is one.
-#[derive(Clone, Copy)]
+// The day to leave out, if there is one: none comes first in the order.
+#[derive(Clone, Copy, PartialEq, Eq, PartialOrd, Ord)]
 pub struct Closing {
     pub day: Option<u32>,
 }
@@ -23,51 +23,36 @@ impl Closing {
     fn shuts(self, v: u32) -> bool
         ensures { result ≡ is_shut self.day v }
     {
-        match self.day {
-            None => false,
-            Some(day) => day == v,
-        }
+        self.day == Some(v)
     }
 
     fn is_at_most(self, other: Closing) -> bool
         ensures { result ≡ ext_le nat_le (from self.day) (from other.day) }
     {
-        let Some(x) = self.day else {
-            return true;
-        };
-        let Some(y) = other.day else {
-            return false;
-        };
-        x <= y
+        self <= other
     }
 
     // Whether the other leaves out what this one does.
     fn is_part_of(self, other: Closing) -> bool
         ensures { result ≡ part_of self.day other.day }
     {
-        match self.day {
-            None => true,
-            Some(day) => other.shuts(day),
-        }
+        self.day.is_none_or(|day| other.shuts(day))
     }
 }
 
 // A closing on a sheet is 0 for none, else its day and one more.
-fn closing_at(sheet: &[u8], start: usize) -> Result<(Closing, usize), Fault>
-    ensures { seen result ≡ closing_at sheet.now start }
+fn read_closing(reader: &mut Reader<'_>) -> Result<Closing, Fault>
+    ensures { Reads closing_at reader.old reader.new result }
 {
-    let (n, end) = number(sheet, start)?;
+    let start = reader.at;
+    let n = reader.number()?;
     if n == 0 {
-        return Ok((Closing { day: None }, end));
+        return Ok(Closing { day: None });
     }
-    let day = n - 1;
-    if day >> 32 != 0 {
-        return Err(Fault::at(Refusal::OutOfRange, start));
+    match u32::try_from(n - 1) {
+        Ok(day) => Ok(Closing { day: Some(day) }),
+        Err(_) => Err(Fault::at(Refusal::OutOfRange, start)),
     }
-    let closing = Closing {
-        day: Some(day as u32),
-    };
-    Ok((closing, end))
 }
 
 // Leaves without a day are a kind, whatever the kind below. On a sheet a leaf is the one below and its closing.
@@ -98,20 +83,12 @@ impl<L: Leaf<u32>> Leaf<u32> for Closed<L> {
     }
 
     fn rule_at_most(&self, other: &Closed<L>) -> bool {
-        if !self.below.rule_at_most(&other.below) {
-            return false;
-        }
-        if !other.below.rule_at_most(&self.below) {
-            return true;
-        }
-        self.closing.is_at_most(other.closing)
+        self.below.rule_at_most(&other.below)
+            && (!other.below.rule_at_most(&self.below) || self.closing.is_at_most(other.closing))
     }
 
     fn rule_admits(&self, v: u32) -> bool {
-        if self.closing.shuts(v) {
-            return false;
-        }
-        self.below.rule_admits(v)
+        !self.closing.shuts(v) && self.below.rule_admits(v)
     }
 
     fn next_on_grid(&self, v: u32) -> Option<u32> {
@@ -123,10 +100,7 @@ impl<L: Leaf<u32>> Leaf<u32> for Closed<L> {
     }
 
     fn rule_covers(&self, other: &Closed<L>) -> bool {
-        if !self.closing.is_part_of(other.closing) {
-            return false;
-        }
-        self.below.rule_covers(&other.below)
+        self.closing.is_part_of(other.closing) && self.below.rule_covers(&other.below)
     }
 
     fn widened(&self, other: &Closed<L>, bounds: Bounds<u32>) -> Closed<L>
@@ -144,10 +118,11 @@ impl<L: Leaf<u32>> Leaf<u32> for Closed<L> {
 
     fn read(sheet: &[u8], start: usize, place: &mut Closed<L>) -> Result<usize, Fault> {
         let mut below = L::blank();
-        let middle = L::read(sheet, start, &mut below)?;
-        let (closing, end) = closing_at(sheet, middle)?;
+        let at = L::read(sheet, start, &mut below)?;
+        let mut reader = Reader { sheet, at };
+        let closing = read_closing(&mut reader)?;
         *place = Closed { below, closing };
-        Ok(end)
+        Ok(reader.at)
     }
 
     ghost lawfully = { closed_laws L.Leaf.kind L.Leaf.lawfully };

@@ -1,9 +1,9 @@
-ghost use Rattle.leaf.specs.Faults.{seen};
+ghost use Rattle.leaf.specs.Reading.{Reads};
 ghost use Rattle.spans.specs.Spans.{day_at, spans};
 ghost use Rattle.std.specs.Prelude.{◌≡◌};
 ghost use Rattle.spans.specs.Every.{spans_laws};
 
-use leaf::{Bounds, Fault, Leaf, Refusal, number};
+use leaf::{Bounds, Fault, Leaf, Reader, Refusal};
 
 // The first byte of a sheet of spans.
 const KIND: u8 = 0x53;
@@ -15,14 +15,12 @@ pub struct Span {
 }
 
 // A day on a sheet is its number, below 2^32.
-fn day_at(sheet: &[u8], start: usize) -> Result<(u32, usize), Fault>
-    ensures { seen result ≡ day_at sheet.now start }
+fn read_day(reader: &mut Reader<'_>) -> Result<u32, Fault>
+    ensures { Reads day_at reader.old reader.new result }
 {
-    let (n, end) = number(sheet, start)?;
-    if n >> 32 != 0 {
-        return Err(Fault::at(Refusal::OutOfRange, start));
-    }
-    Ok((n as u32, end))
+    let start = reader.at;
+    let n = reader.number()?;
+    u32::try_from(n).map_err(|_| Fault::at(Refusal::OutOfRange, start))
 }
 
 // Windows of every day are a kind. On a sheet a leaf is its minimum and its maximum.
@@ -81,8 +79,9 @@ impl Leaf<u32> for Span {
     }
 
     fn read(sheet: &[u8], start: usize, place: &mut Span) -> Result<usize, Fault> {
-        let (low, middle) = day_at(sheet, start)?;
-        let (high, end) = day_at(sheet, middle)?;
+        let mut reader = Reader { sheet, at: start };
+        let low = read_day(&mut reader)?;
+        let high = read_day(&mut reader)?;
         if low > high {
             return Err(Fault::at(Refusal::MinAboveMax, start));
         }
@@ -91,7 +90,7 @@ impl Leaf<u32> for Span {
             maximum: Some(high),
         };
         *place = Span { bounds };
-        Ok(end)
+        Ok(reader.at)
     }
 
     ghost lawfully = { spans_laws };
