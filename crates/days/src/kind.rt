@@ -1,4 +1,6 @@
 ghost use Rattle.days.specs.Days.{days};
+ghost use Rattle.days.specs.Meaning.{ReadMeans};
+ghost use Rattle.leaf.specs.Faults.{Fills};
 ghost use Rattle.std.specs.Prelude.{◌≡◌};
 ghost use Rattle.days.specs.Shows.{days_laws};
 
@@ -6,7 +8,7 @@ use crate::calendar::LAST_DAY;
 use crate::day_leaf::DayLeaf;
 use crate::reader::read_leaf;
 use crate::weekdays::{holds_set, is_in_set, next_in_set};
-use leaf::{Bounds, Fault, Leaf};
+use leaf::{Bounds, Fault, Leaf, Reader};
 
 // The first byte of a sheet of days.
 const KIND: u8 = 0x44;
@@ -73,10 +75,14 @@ impl Leaf<u32> for DayLeaf {
         b == KIND
     }
 
-    fn read(sheet: &[u8], start: usize, place: &mut DayLeaf) -> Result<usize, Fault> {
-        let (leaf, end) = read_leaf(sheet, start)?;
-        *place = leaf;
-        Ok(end)
+    #[tactic(auto, using(crate::proofs::Means::read_means))]
+    fn read(sheet: &[u8], start: usize, place: &mut DayLeaf) -> Result<usize, Fault>
+        ensures reads { Fills (days.reading sheet.now start) place.old place.new result }
+        ensures means { ReadMeans }
+    {
+        let mut reader = Reader { sheet, at: start };
+        *place = read_leaf(&mut reader)?;
+        Ok(reader.at)
     }
 
     ghost lawfully = { days_laws };

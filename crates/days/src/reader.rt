@@ -1,8 +1,6 @@
-ghost use Rattle.days.specs.Meaning.{ReadMeans};
 ghost use Rattle.days.specs.Reading.{bound_at, bounds_at, flags_at, leaf_at, set_at};
-ghost use Rattle.leaf.specs.Faults.{seen};
 ghost use Rattle.leaf.specs.Reading.{Reads};
-ghost use Rattle.std.specs.Prelude.{◌≡◌, length, drop};
+ghost use Rattle.std.specs.Prelude.{length, drop};
 
 use crate::calendar::day_number;
 use crate::day_leaf::{DayLeaf, is_window};
@@ -13,7 +11,7 @@ use leaf::{Bounds, Fault, Reader, Refusal, has_flag, rest_of};
 const FLAGS: u8 = 4;
 
 // The flags byte.
-fn flags(reader: &mut Reader<'_>) -> Result<u8, Fault>
+fn read_flags(reader: &mut Reader<'_>) -> Result<u8, Fault>
     ensures { Reads (λ s at. flags_at (length s) at (drop at s)) reader.old reader.new result }
 {
     let [flags, ..] = rest_of(reader.sheet, reader.at) else {
@@ -27,7 +25,7 @@ fn flags(reader: &mut Reader<'_>) -> Result<u8, Fault>
 }
 
 // A bound that is present is a year, a month and a day: no such day is named at its year.
-fn bound(reader: &mut Reader<'_>, present: bool) -> Result<Option<u32>, Fault>
+fn read_bound(reader: &mut Reader<'_>, present: bool) -> Result<Option<u32>, Fault>
     ensures { Reads (bound_at present) reader.old reader.new result }
 {
     if !present {
@@ -44,16 +42,16 @@ fn bound(reader: &mut Reader<'_>, present: bool) -> Result<Option<u32>, Fault>
 }
 
 // The bounds that the flags say are present, minimum first.
-fn bounds(reader: &mut Reader<'_>, flags: u8) -> Result<Bounds<u32>, Fault>
+fn read_bounds(reader: &mut Reader<'_>, flags: u8) -> Result<Bounds<u32>, Fault>
     ensures { Reads (bounds_at flags) reader.old reader.new result }
 {
-    let minimum = bound(reader, has_flag(flags, 0))?;
-    let maximum = bound(reader, has_flag(flags, 1))?;
+    let minimum = read_bound(reader, has_flag(flags, 0))?;
+    let maximum = read_bound(reader, has_flag(flags, 1))?;
     Ok(Bounds { minimum, maximum })
 }
 
 // The weekday set.
-fn weekday_set(reader: &mut Reader<'_>) -> Result<u8, Fault>
+fn read_weekdays(reader: &mut Reader<'_>) -> Result<u8, Fault>
     ensures { Reads set_at reader.old reader.new result }
 {
     let start = reader.at;
@@ -65,32 +63,15 @@ fn weekday_set(reader: &mut Reader<'_>) -> Result<u8, Fault>
 }
 
 // The leaf whose flags stand here.
-fn leaf(reader: &mut Reader<'_>) -> Result<DayLeaf, Fault>
+pub(crate) fn read_leaf(reader: &mut Reader<'_>) -> Result<DayLeaf, Fault>
     ensures { Reads leaf_at reader.old reader.new result }
 {
     let start = reader.at;
-    let flags = flags(reader)?;
-    let bounds = bounds(reader, flags)?;
-    let weekdays = weekday_set(reader)?;
+    let flags = read_flags(reader)?;
+    let bounds = read_bounds(reader, flags)?;
+    let weekdays = read_weekdays(reader)?;
     if !is_window(bounds.minimum, bounds.maximum) {
         return Err(Fault::at(Refusal::MinAboveMax, start));
     }
     Ok(DayLeaf { bounds, weekdays })
-}
-
-// The leaf whose flags stand at `start`, and the place past it.
-pub(crate) fn leaf_at(sheet: &[u8], start: usize) -> Result<(DayLeaf, usize), Fault>
-    ensures { seen result ≡ leaf_at sheet.now start }
-{
-    let mut reader = Reader { sheet, at: start };
-    let read = leaf(&mut reader)?;
-    Ok((read, reader.at))
-}
-
-// The same, with what the leaf means.
-pub(crate) fn read_leaf(sheet: &[u8], start: usize) -> Result<(DayLeaf, usize), Fault>
-    ensures reads { seen result ≡ leaf_at sheet.now start }
-    ensures means { ReadMeans }
-{
-    leaf_at(sheet, start)
 }
