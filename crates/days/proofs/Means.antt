@@ -1,5 +1,5 @@
 -- A leaf admits what its bounds and its weekdays mean.
-use Rattle.std.proofs.Common.{◌≡◌, ℕ, ◌≤◌, ◌&&◌, nat_le, List, length, drop, Some, None, Ok, Decides, Option, Result, refl, subst, ap, ◌∙◌, arith}
+use Rattle.std.proofs.Common.{◌≡◌, ℕ, ◌≤◌, ◌&&◌, nat_le, List, Some, None, Ok, Decides, Option, Result, refl, subst, ap, ◌∙◌, arith}
 use Rattle.std.proofs.lemmas.Bool.{and_from, and_parts, cond_both, le-leb, leb-true}
 use Rattle.leaf.specs.Faults.{Answer, Refused, at_byte, found, next, refused}
 use Rattle.leaf.specs.Numbers.{has_bit}
@@ -61,7 +61,7 @@ leaf_means low high set d =
 
 read_as : (s : List ℕ) (i : ℕ) (a : DayLeaf) (e : ℕ) → leaf_at s i ≡ found a e → ReadAs s i a e
 read_as s i a e h =
-    let f = next_found (flags_at (length s) i (drop i s)) _ a e h in
+    let f = next_found (flags_at s i) _ a e h in
     let b = next_found (bounds_at f.0 s f.1) _ a e f.3 in
     let w = next_found (set_at s b.1) _ a e b.3 in
     cond_both (is_window b.0.minimum b.0.maximum) (found (leaf_of b.0.minimum b.0.maximum w.0) w.1) (refused (at_byte 8 i)) (λ r. r ≡ found a e → ReadAs s i a e)

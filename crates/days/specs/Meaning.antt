@@ -1,5 +1,5 @@
 -- What a day leaf admits, in the words of the dates and weekdays that were written.
-use Rattle.std.specs.Prelude.{◌≡◌, ℕ, ◌≤◌, true, List, length, drop, Some, None, Decides, Option}
+use Rattle.std.specs.Prelude.{◌≡◌, ℕ, ◌≤◌, true, List, Some, None, Decides, Option}
 use Rattle.leaf.specs.Faults.{found}
 use Rattle.leaf.specs.Numbers.{has_bit}
 use Rattle.leaf.specs.Kind.{admits}
@@ -25,7 +25,7 @@ pub record ReadAs (s : List ℕ) (at : ℕ) (a : DayLeaf) (e : ℕ) : Type 0 whe
   pub flags : ℕ
   pub at_bounds : ℕ
   pub at_set : ℕ
-  pub flagged : flags_at (length s) at (drop at s) ≡ found flags at_bounds
+  pub flagged : flags_at s at ≡ found flags at_bounds
   pub bounded : bounds_at flags s at_bounds ≡ found a.bounds at_set
   pub weekdays : set_at s at_set ≡ found a.weekdays e
   pub means : Means a.bounds.minimum a.bounds.maximum a.weekdays a

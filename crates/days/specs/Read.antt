@@ -1,12 +1,13 @@
 -- What is read of a day leaf is lawful, and ends past its start and within the sheet.
-use Rattle.std.specs.Prelude.{◌≡◌, ℕ, ◌+◌, ◌-◌, ◌<◌, ◌≤◌, Bool, true, false, List, [], ◌∷◌, length, drop, Some, None, Option, nat_lt, refl}
-use Rattle.std.proofs.Common.{subst, arith, length-drop}
+use Rattle.std.specs.Prelude.{◌≡◌, ℕ, ◌<◌, ◌≤◌, Bool, true, false, List, length, Some, None, Option, nat_lt, refl}
+use Rattle.std.proofs.Common.{subst, arith}
 use Rattle.std.proofs.lemmas.Bool.{cond_both}
 use Rattle.leaf.specs.Faults.{Answer, found, refused, at_byte}
 use Rattle.leaf.specs.declared.bounds.Bounds.{Bounds}
 use Rattle.leaf.specs.Numbers.{has_bit, number_at}
+use Rattle.leaf.specs.Reading.{byte_at}
 use Rattle.leaf.specs.Kind.{WellRead}
-use Rattle.leaf.proofs.Chains.{next_both, Ends, ends_found, number_ends}
+use Rattle.leaf.proofs.Chains.{next_both, Ends, byte_ends, ends_found, number_ends}
 use Rattle.days.specs.Calendar.{day_of}
 use Rattle.days.specs.Days.{days}
 use Rattle.days.specs.Leaves.{is_bound, is_window, leaf_of}
@@ -15,9 +16,10 @@ use Rattle.days.specs.Weekdays.{is_set}
 use Rattle.days.specs.Dates.{day_small}
 use Rattle.days.specs.Lawful.{leaf_lawful}
 
-flags_end : (s : List ℕ) (i : ℕ) (d : List ℕ) → length d ≤ length s - i → Ends s i (flags_at (length s) i d)
-flags_end s i [] l = tt
-flags_end s i (b ∷ bs) l = cond_both (nat_lt b 4) (found b (i + 1)) (refused (at_byte 4 i)) (Ends s i) (λ _. (omega arith, omega arith)) (λ _. tt)
+flags_end : (s : List ℕ) (i : ℕ) → Ends s i (flags_at s i)
+flags_end s i =
+    next_both (byte_at s i) _ (Ends s i) (λ _. tt) (λ b e p.
+    cond_both (nat_lt b 4) (found b e) (refused (at_byte 4 i)) (Ends s i) (λ _. ends_found s i (byte_at s i) b e (byte_ends s i) p) (λ _. tt))
 
 -- a bound that may be absent ends no earlier than it starts
 abbrev Bound : List ℕ → ℕ → Answer (Option ℕ) → Type 0
@@ -64,8 +66,8 @@ set_end s i =
 
 pub well_read : (s : List ℕ) (i : ℕ) → WellRead days s i (leaf_at s i)
 well_read s i =
-    next_both (flags_at (length s) i (drop i s)) _ (WellRead days s i) (λ _. tt) (λ f e p.
-    let a = ends_found s i (flags_at (length s) i (drop i s)) f e (flags_end s i (drop i s) (omega (arith, length-drop i s))) p in
+    next_both (flags_at s i) _ (WellRead days s i) (λ _. tt) (λ f e p.
+    let a = ends_found s i (flags_at s i) f e (flags_end s i) p in
     next_both (bounds_at f s e) _ (WellRead days s i) (λ _. tt) (λ w g q.
     let b = subst (Window s e) q (bounds_end f s e a.1) in
     next_both (set_at s g) _ (WellRead days s i) (λ _. tt) (λ set end r.

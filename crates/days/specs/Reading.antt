@@ -1,17 +1,17 @@
 -- A day leaf on a sheet: flags, year, month and day of each bound present, the weekday set.
-use Rattle.std.specs.Prelude.{ℕ, ◌+◌, Bool, true, false, cond, List, [], ◌∷◌, length, drop, Some, None, Option, nat_lt}
+use Rattle.std.specs.Prelude.{ℕ, Bool, true, false, cond, List, Some, None, Option, nat_lt}
 use Rattle.leaf.specs.declared.bounds.Bounds.{Bounds}
 use Rattle.leaf.specs.Faults.{Answer, found, refused, next, at_byte}
 use Rattle.leaf.specs.Numbers.{has_bit, number_at}
+use Rattle.leaf.specs.Reading.{byte_at}
 use Rattle.days.specs.declared.day_leaf.DayLeaf.{DayLeaf}
 use Rattle.days.specs.Calendar.{day_of}
 use Rattle.days.specs.Leaves.{is_window, leaf_of}
 use Rattle.days.specs.Weekdays.{is_set}
 
 -- flags: bit 0 minimum present, bit 1 maximum present, no other
-abbrev pub flags_at : ℕ → ℕ → List ℕ → Answer ℕ
-flags_at end at [] = refused (at_byte 2 end)
-flags_at end at (b ∷ bs) = cond (nat_lt b 4) (found b (at + 1)) (refused (at_byte 4 at))
+abbrev pub flags_at : List ℕ → ℕ → Answer ℕ
+flags_at s at = next (byte_at s at) (λ b e. cond (nat_lt b 4) (found b e) (refused (at_byte 4 at)))
 
 -- a day is judged after its three numbers, at its year's first byte
 abbrev pub day_at : ℕ → ℕ → Option ℕ → Answer (Option ℕ)
@@ -34,5 +34,5 @@ set_at s at = next (number_at s at) (λ n e. cond (is_set n) (found n e) (refuse
 
 -- the window is judged after the leaf's last byte, at the flags
 abbrev pub leaf_at : List ℕ → ℕ → Answer DayLeaf
-leaf_at s at = next (flags_at (length s) at (drop at s)) (λ f e. next (bounds_at f s e) (λ w g. next (set_at s g) (λ set end.
+leaf_at s at = next (flags_at s at) (λ f e. next (bounds_at f s e) (λ w g. next (set_at s g) (λ set end.
     cond (is_window w.minimum w.maximum) (found (leaf_of w.minimum w.maximum set) end) (refused (at_byte 8 at)))))

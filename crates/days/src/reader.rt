@@ -1,27 +1,24 @@
 ghost use Rattle.days.specs.Reading.{bound_at, bounds_at, flags_at, leaf_at, set_at};
 ghost use Rattle.leaf.specs.Reading.{Reads};
-ghost use Rattle.std.specs.Prelude.{length, drop};
 
 use crate::calendar::day_number;
 use crate::day_leaf::{DayLeaf, is_window};
 use crate::weekdays::is_set;
-use leaf::{Bounds, Fault, Reader, Refusal, has_flag, rest_of};
+use leaf::{Bounds, Fault, Reader, Refusal, has_flag};
 
 // The flags up to which a byte may be one.
 const FLAGS: u8 = 4;
 
 // The flags byte.
 fn read_flags(reader: &mut Reader<'_>) -> Result<u8, Fault>
-    ensures { Reads (λ s at. flags_at (length s) at (drop at s)) reader.old reader.new result }
+    ensures { Reads flags_at reader.old reader.new result }
 {
-    let [flags, ..] = rest_of(reader.sheet, reader.at) else {
-        return Err(Fault::at(Refusal::EndsEarly, reader.sheet.len()));
-    };
-    if *flags >= FLAGS {
-        return Err(Fault::at(Refusal::UnknownByte, reader.at));
+    let start = reader.at;
+    let flags = reader.byte()?;
+    if flags >= FLAGS {
+        return Err(Fault::at(Refusal::UnknownByte, start));
     }
-    reader.at += 1;
-    Ok(*flags)
+    Ok(flags)
 }
 
 // A bound that is present is a year, a month and a day: no such day is named at its year.

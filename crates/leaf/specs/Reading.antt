@@ -1,14 +1,30 @@
 -- A sheet that is read part by part.
-use Rattle.std.specs.Prelude.{◌≡◌, ℕ, List, Ok, Err, Result}
+use Rattle.std.specs.Prelude.{◌≡◌, ℕ, ◌+◌, List, [], ◌∷◌, length, drop, Ok, Err, Result}
 use Rattle.leaf.specs.declared.fault.Fault.{Fault}
 use Rattle.leaf.specs.declared.reader.Reader.{Reader}
-use Rattle.leaf.specs.Faults.{Answer, found, refused, shown}
+use Rattle.leaf.specs.Faults.{Answer, found, refused, at_byte, shown}
 
 -- what a call read up to a byte, or its refusal
 abbrev pub up_to : {A : Type 0} → Result A Fault → ℕ → Answer A
 up_to (Ok x) end = found x end
 up_to (Err f) end = refused (shown f)
 
+abbrev pub up_to_as : {A B : Type 0} → (A → B) → Result A Fault → ℕ → Answer B
+up_to_as meaning (Ok x) end = found (meaning x) end
+up_to_as meaning (Err f) end = refused (shown f)
+
 -- a part is read as a definition says of the sheet and the byte where the reader stood, and the reader stands behind it; the sheet stays
 abbrev pub Reads : {A : Type 0} → (List ℕ → ℕ → Answer A) → Reader → Reader → Result A Fault → Type 0
 Reads part old new r = (new.sheet.now ≡ old.sheet.now) × (up_to r new.at ≡ part old.sheet.now old.at)
+
+-- the same, where what was read is told by what it stands for
+abbrev pub ReadsAs : {A B : Type 0} → (A → B) → (List ℕ → ℕ → Answer B) → Reader → Reader → Result A Fault → Type 0
+ReadsAs meaning part old new r = (new.sheet.now ≡ old.sheet.now) × (up_to_as meaning r new.at ≡ part old.sheet.now old.at)
+
+-- the byte that stands there; where none does, the sheet ends too early
+abbrev pub byte_in : ℕ → ℕ → List ℕ → Answer ℕ
+byte_in end at [] = refused (at_byte 2 end)
+byte_in end at (b ∷ bs) = found b (at + 1)
+
+abbrev pub byte_at : List ℕ → ℕ → Answer ℕ
+byte_at sheet at = byte_in (length sheet) at (drop at sheet)
