@@ -1,22 +1,24 @@
 -- What is read of an amount leaf is lawful, ends past its start and within the sheet, and means what is written.
-use Rattle.std.specs.Prelude.{◌≡◌, ℕ, zero, suc, ◌+◌, ◌-◌, ◌^◌, ◌<◌, ◌≤◌, Bool, true, false, cond, ◌&&◌, List, [], ◌∷◌, length, drop, ℤ, Some, None, Option, nat_le, nat_lt, refl}
-use Rattle.std.proofs.Common.{ap, subst, ◌∙◌, arith, length-drop}
+use Rattle.std.specs.Prelude.{◌≡◌, ℕ, zero, suc, ◌^◌, ◌<◌, ◌≤◌, Bool, true, false, cond, ◌&&◌, List, length, ℤ, Some, None, Option, nat_le, nat_lt, refl}
+use Rattle.std.proofs.Common.{ap, subst, ◌∙◌, arith}
 use Rattle.std.proofs.lemmas.Bool.{and_from, and_parts, cond_both, cond-true, le-leb, ltb-false}
 use Rattle.divisors.specs.declared.fraction.Fraction.{Fraction}
 use Rattle.divisors.specs.Fractions.{in_range}
 use Rattle.divisors.specs.Written.{are_in_range, refusal_of}
 use Rattle.leaf.specs.Faults.{Answer, found, refused, at_byte}
 use Rattle.leaf.specs.Numbers.{has_bit, number_at}
+use Rattle.leaf.specs.Reading.{byte_at}
 use Rattle.leaf.specs.Kind.{is_bound}
-use Rattle.leaf.proofs.Chains.{next_both, Ends, ends_found, number_ends}
+use Rattle.leaf.proofs.Chains.{next_both, Ends, byte_ends, ends_found, number_ends}
 use Rattle.amounts.specs.Amounts.{amounts}
 use Rattle.amounts.specs.Reading.{Written, amount_at, are_flags, bound_at, bounds_at, flags_at, fraction_at, fractions_at, head_at, list_at, lists_at, part_at, written_at}
 use Rattle.amounts.specs.Values.{amount_of}
 use Rattle.amounts.specs.Windows.{amount_is}
 
-flags_end : (s : List ℕ) (i : ℕ) (d : List ℕ) → length d ≤ length s - i → Ends s i (flags_at (length s) i d)
-flags_end s i [] l = tt
-flags_end s i (b ∷ bs) l = cond_both (are_flags b) (found b (i + 1)) (refused (at_byte 4 i)) (Ends s i) (λ _. (omega arith, omega arith)) (λ _. tt)
+flags_end : (s : List ℕ) (i : ℕ) → Ends s i (flags_at s i)
+flags_end s i =
+    next_both (byte_at s i) _ (Ends s i) (λ _. tt) (λ b e p.
+    cond_both (are_flags b) (found b e) (refused (at_byte 4 i)) (Ends s i) (λ _. ends_found s i (byte_at s i) b e (byte_ends s i) p) (λ _. tt))
 
 -- a bound that may be absent ends no earlier than it starts
 abbrev Bound : List ℕ → ℕ → Answer (Option ℤ) → Type 0
@@ -57,8 +59,8 @@ later s i e (refused r) l h = tt
 
 head_end : (s : List ℕ) (i : ℕ) → Head s i (head_at s i)
 head_end s i =
-    next_both (flags_at (length s) i (drop i s)) _ (Head s i) (λ _. tt) (λ f e p.
-    let a = ends_found s i (flags_at (length s) i (drop i s)) f e (flags_end s i (drop i s) (omega (arith, length-drop i s))) p in
+    next_both (flags_at s i) _ (Head s i) (λ _. tt) (λ f e p.
+    let a = ends_found s i (flags_at s i) f e (flags_end s i) p in
     later s i e (bounds_at f s e) a.0 (bounds_end f s e a.1))
 
 abbrev Part : List ℕ → ℕ → Answer ℕ → Type 0

@@ -1,11 +1,11 @@
 -- The leaf that a sheet holds: lawful, and meaning what is written.
-use Rattle.std.specs.Prelude.{◌≡◌, ℕ, ◌-◌, ◌≤◌, true, cond, ◌&&◌, List, [], ◌∷◌, ◌++◌, length, take, replicate, ℤ, None, Ok, Option, refl}
+use Rattle.std.specs.Prelude.{◌≡◌, ℕ, ◌≤◌, true, cond, ◌&&◌, List, length, ℤ, None, Option, refl}
 use Rattle.std.proofs.Common.{sym, ap, subst, ◌∙◌, arith}
-use Rattle.std.proofs.lemmas.Bool.{and_from, cond_both, cond-true}
+use Rattle.std.proofs.lemmas.Bool.{and_from, cond_both}
 use Rattle.divisors.specs.declared.fraction.Fraction.{Fraction}
+use Rattle.divisors.specs.declared.row.Row.{Row}
 use Rattle.divisors.specs.Dividing.{thin_of, thinned}
 use Rattle.divisors.specs.Folding.{fold_of}
-use Rattle.divisors.specs.Fractions.{none}
 use Rattle.divisors.specs.Lists.{tidy_of}
 use Rattle.divisors.specs.Rows.{fractions, padded}
 use Rattle.divisors.specs.Settled.{settled}
@@ -18,11 +18,10 @@ use Rattle.leaf.specs.Faults.{Answer, Refused, found, refused, at_byte, next}
 use Rattle.leaf.specs.Kind.{Lawful, WellRead, is_bound, is_value_window}
 use Rattle.leaf.proofs.Chains.{next_both}
 use Rattle.amounts.specs.declared.amount_leaf.AmountLeaf.{AmountLeaf}
-use Rattle.amounts.specs.declared.reader.WrittenList.{WrittenList}
 use Rattle.amounts.specs.Amounts.{amounts}
 use Rattle.amounts.specs.Leaves.{is_window, leaf_of, row_of}
 use Rattle.amounts.specs.Meaning.{Means, ReadMeans}
-use Rattle.amounts.specs.Reading.{Listed, Written, head_at, leaf_at, list_of, lists_at, written_at}
+use Rattle.amounts.specs.Reading.{Written, both_lists, leaf_at, lists_at, written_at}
 use Rattle.amounts.specs.Endings.{Lists, Sound, list_taken, lists_end, written_sound}
 use Rattle.amounts.specs.Lengths.{barred_length, required_length, row_fractions, row_padded}
 use Rattle.amounts.specs.Makes.{lawful_leaf}
@@ -91,43 +90,10 @@ read_means s i a e = go (written_at s i) refl
         cond_both (is_window w.low w.high) (found (leaf_of w.low w.high w.required w.barred) g) (refused (at_byte 8 i)) (λ r. r ≡ found a e → Says s i a e)
         (λ _ q. said w g p q) (λ _ q. no (at_byte 8 i) refl q)
 
-take_front : (xs ys : List Fraction) → take (length xs) (xs ++ ys) ≡ xs
-take_front [] ys = refl
-take_front (x ∷ xs) ys = ap (λ (zs : List Fraction). x ∷ zs) (take_front xs ys)
-
--- the lists in the places lent
-pub record Taken (s : List ℕ) (i : ℕ) (x y : WrittenList) (e : ℕ) : Type 0 where
-  pub required : List Fraction
-  pub barred : List Fraction
-  pub read : lists_at s i ≡ found (required, barred) e
-  pub required_is : list_of x ≡ required
-  pub barred_is : list_of y ≡ barred
-  pub required_fits : refusal_of required ≡ None
-  pub barred_fits : refusal_of barred ≡ None
-
-pub lists_taken : (s : List ℕ) (i : ℕ) (x y : WrittenList) (e : ℕ) → Listed (lists_at s i) x y (Ok e) → Taken s i x y e
-lists_taken s i x y e = go (lists_at s i) refl
-  where
-    go : (a : Answer (List Fraction × List Fraction)) → lists_at s i ≡ a → Listed a x y (Ok e) → Taken s i x y e
-    go (refused f) q h = absurd h
-    go (found p m) q h =
-        let n : m ≡ e = let k = h.0 in cc in
-        let l = subst (Lists s i) q (lists_end s i) in
-        record {
-          required = p.0;
-          barred = p.1;
-          read = q ∙ ap (λ (k : ℕ). found p k) n;
-          required_is = ap list_of h.1 ∙ take_front p.0 (replicate (6 - length p.0) none);
-          barred_is = ap list_of h.2 ∙ take_front p.1 (replicate (6 - length p.1) none);
-          required_fits = list_taken p.0 l.0 l.1;
-          barred_fits = list_taken p.1 l.2 l.3;
-        }
-
-pub leaf_read :
-    (s : List ℕ) (i m e : ℕ) (low high : Option ℤ) (ws us : List Fraction) → found (low, high) m ≡ head_at s i → lists_at s m ≡ found (ws, us) e → is_window low high ≡ true →
-    leaf_at s i ≡ found (leaf_of low high ws us) e
-leaf_read s i m e low high ws us p q t =
-    let ends : Answer Written → Answer AmountLeaf = λ o. next o (λ w end. cond (is_window w.low w.high) (found (leaf_of w.low w.high w.required w.barred) end) (refused (at_byte 8 i))) in
-    sym (ap (λ (a : Answer (Option ℤ × Option ℤ)). ends (next a (λ w n. next (lists_at s n) (λ l end. found (record { low = w.0; high = w.1; required = l.0; barred = l.1 }) end)))) p) ∙
-    (ap (λ (a : Answer (List Fraction × List Fraction)). ends (next a (λ l end. found (record { low = low; high = high; required = l.0; barred = l.1 }) end))) q ∙
-    cond-true (is_window low high) (found (leaf_of low high ws us) e) (refused (at_byte 8 i)) t)
+-- nothing is refused of the lists that were read
+pub lists_taken :
+    (s : List ℕ) (i : ℕ) (rows : Row × Row) (e : ℕ) → found (both_lists rows) e ≡ lists_at s i →
+    (refusal_of (fractions rows.0) ≡ None) × (refusal_of (fractions rows.1) ≡ None)
+lists_taken s i rows e q =
+    let l = subst (Lists s i) (sym q) (lists_end s i) in
+    (list_taken (fractions rows.0) l.0 l.1, list_taken (fractions rows.1) l.2 l.3)

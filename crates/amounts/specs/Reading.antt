@@ -1,13 +1,13 @@
 -- An amount leaf on a sheet: flags, the magnitudes of the bounds present, the count of required divisors and each as numerator
 -- and denominator, then the barred ones likewise.
-use Rattle.std.specs.Prelude.{◌≡◌, ℕ, zero, suc, ◌+◌, ◌-◌, ◌^◌, Bool, true, false, cond, not, ◌&&◌, ◌||◌, List, [], ◌∷◌, ◌++◌, length, take, drop, replicate, ℤ, Some, None, Ok, Err, Option, Result, nat_lt}
+use Rattle.std.specs.Prelude.{ℕ, zero, suc, ◌^◌, Bool, true, false, cond, not, ◌&&◌, ◌||◌, List, [], ◌∷◌, ℤ, Some, None, Option, nat_lt}
 use Rattle.divisors.specs.declared.fraction.Fraction.{Fraction}
-use Rattle.divisors.specs.Fractions.{none}
-use Rattle.leaf.specs.declared.fault.Fault.{Fault}
-use Rattle.leaf.specs.Faults.{Answer, found, refused, next, at_byte, shown}
+use Rattle.divisors.specs.declared.row.Row.{Row}
+use Rattle.divisors.specs.Rows.{fractions}
+use Rattle.leaf.specs.Faults.{Answer, found, refused, next, at_byte}
 use Rattle.leaf.specs.Numbers.{has_bit, number_at}
+use Rattle.leaf.specs.Reading.{byte_at}
 use Rattle.amounts.specs.declared.amount_leaf.AmountLeaf.{AmountLeaf}
-use Rattle.amounts.specs.declared.reader.WrittenList.{WrittenList}
 use Rattle.amounts.specs.Values.{amount_of}
 use Rattle.amounts.specs.Leaves.{is_window, leaf_of}
 
@@ -15,9 +15,8 @@ use Rattle.amounts.specs.Leaves.{is_window, leaf_of}
 abbrev pub are_flags : ℕ → Bool
 are_flags f = nat_lt f 16 && ((has_bit f 0 || not (has_bit f 2)) && (has_bit f 1 || not (has_bit f 3)))
 
-abbrev pub flags_at : ℕ → ℕ → List ℕ → Answer ℕ
-flags_at end at [] = refused (at_byte 2 end)
-flags_at end at (b ∷ bs) = cond (are_flags b) (found b (at + 1)) (refused (at_byte 4 at))
+abbrev pub flags_at : List ℕ → ℕ → Answer ℕ
+flags_at s at = next (byte_at s at) (λ b e. cond (are_flags b) (found b e) (refused (at_byte 4 at)))
 
 abbrev pub amount_at : ℕ → ℕ → Option ℤ → Answer (Option ℤ)
 amount_at at e None = refused (at_byte 7 at)
@@ -57,7 +56,7 @@ pub record Written : Type 0 where
 
 -- flags and bounds
 abbrev pub head_at : List ℕ → ℕ → Answer (Option ℤ × Option ℤ)
-head_at s at = next (flags_at (length s) at (drop at s)) (λ f e. bounds_at f s e)
+head_at s at = next (flags_at s at) (λ f e. bounds_at f s e)
 
 -- the required list, then the barred one
 abbrev pub lists_at : List ℕ → ℕ → Answer (List Fraction × List Fraction)
@@ -70,16 +69,6 @@ written_at s at = next (head_at s at) (λ w e. next (lists_at s e) (λ p end. fo
 abbrev pub leaf_at : List ℕ → ℕ → Answer AmountLeaf
 leaf_at s at = next (written_at s at) (λ w end. cond (is_window w.low w.high) (found (leaf_of w.low w.high w.required w.barred) end) (refused (at_byte 8 at)))
 
--- the places of a list that was read
-abbrev pub places_of : List Fraction → WrittenList
-places_of fs = record { items = fs ++ replicate (6 - length fs) none; count = length fs }
-
--- the list that they hold
-abbrev pub list_of : WrittenList → List Fraction
-list_of w = take w.count w.items
-
--- both lists were read, or the first refusal comes
-abbrev pub Listed : Answer (List Fraction × List Fraction) → WrittenList → WrittenList → Result ℕ Fault → Type 0
-Listed (found p e) a b r = (r ≡ Ok e) × (a ≡ places_of p.0) × (b ≡ places_of p.1)
-Listed (refused f) a b (Ok e) = ⊥
-Listed (refused f) a b (Err g) = shown g ≡ f
+-- what two rows hold
+abbrev pub both_lists : Row × Row → List Fraction × List Fraction
+both_lists rows = (fractions rows.0, fractions rows.1)

@@ -7,7 +7,7 @@ ghost use Rattle.amounts.specs.Shows.{amounts_laws};
 use crate::amount_leaf::{AmountLeaf, leaf_of};
 use crate::grid::{multiple_beyond, step};
 use crate::reader::read_leaf;
-use leaf::{Bounds, Fault, Leaf};
+use leaf::{Bounds, Fault, Leaf, Reader};
 
 // The first byte of a sheet of amounts.
 const KIND: u8 = 0x41;
@@ -84,10 +84,13 @@ impl Leaf<i64> for AmountLeaf {
         b == KIND
     }
 
+    #[tactic(auto, using(crate::specs::Read::read_means))]
     fn read(sheet: &[u8], start: usize, place: &mut AmountLeaf) -> Result<usize, Fault>
         ensures reads { Fills (amounts.reading sheet.now start) place.old place.new result }
         ensures means { ReadMeans }
     {
-        read_leaf(sheet, start, place)
+        let mut reader = Reader { sheet, at: start };
+        *place = read_leaf(&mut reader)?;
+        Ok(reader.at)
     }
 }
