@@ -8,28 +8,17 @@ pub struct WrittenAmount {
     pub negative: bool,
 }
 
-// The amount of a magnitude and a sign, if it is from -2^63 to 2^63 - 1 and no minus zero.
-pub(crate) fn amount(negative: bool, magnitude: u64) -> Option<i64>
-    ensures { result ≡ amount_of negative magnitude }
-{
-    if !negative {
-        return if magnitude >> 63 == 0 {
-            Some(magnitude as i64)
-        } else {
-            None
-        };
-    }
-    if magnitude == 0 || magnitude > 1 << 63 {
-        return None;
-    }
-    Some(-((magnitude - 1) as i64) - 1)
-}
-
 impl WrittenAmount {
     // The amount, if it is from -2^63 to 2^63 - 1 and no minus zero.
     pub fn value(self) -> Option<i64>
         ensures { result ≡ amount_of self.negative self.magnitude }
     {
-        amount(self.negative, self.magnitude)
+        if !self.negative {
+            return i64::try_from(self.magnitude).ok();
+        }
+        if self.magnitude == 0 {
+            return None;
+        }
+        0i64.checked_sub_unsigned(self.magnitude)
     }
 }

@@ -8,7 +8,7 @@ ghost use Rattle.leaf.specs.Faults.{told};
 ghost use Rattle.leaf.specs.Kind.{Lawful, is_value_window};
 ghost use Rattle.std.specs.Prelude.{◌≡◌, true, IfOk, None, Ok, OnOk};
 
-use crate::amount::{WrittenAmount, amount};
+use crate::amount::WrittenAmount;
 use divisors::{Folded, Fraction, Row, Thinned, check};
 use leaf::{Bounds, Fault, Refusal};
 
@@ -37,21 +37,20 @@ fn bound_of(written: Option<WrittenAmount>) -> Result<Option<i64>, Fault>
     let Some(w) = written else {
         return Ok(None);
     };
-    match amount(w.negative, w.magnitude) {
-        None => Err(Fault::unplaced(Refusal::OutOfRange)),
-        Some(z) => Ok(Some(z)),
-    }
+    let amount = w.value().ok_or(Fault::unplaced(Refusal::OutOfRange))?;
+    Ok(Some(amount))
 }
 
 // What is refused of the divisors.
 fn check_divisors(required: &[Fraction], barred: &[Fraction]) -> Result<(), Fault>
     ensures { told result ≡ after (refusal_of_both required.now barred.now) (Ok tt) }
 {
-    match check(required, barred) {
-        Ok(()) => Ok(()),
-        Err(divisors::Refusal::OutOfRange) => Err(Fault::unplaced(Refusal::BadPart)),
-        Err(divisors::Refusal::TooMany) => Err(Fault::unplaced(Refusal::ManyDivisors)),
-    }
+    check(required, barred).map_err(|refusal| {
+        Fault::unplaced(match refusal {
+            divisors::Refusal::OutOfRange => Refusal::BadPart,
+            divisors::Refusal::TooMany => Refusal::ManyDivisors,
+        })
+    })
 }
 
 // The leaf of these bounds and of divisors as written, which were looked at before.
@@ -62,18 +61,10 @@ pub(crate) fn leaf_of(bounds: Bounds<i64>, required: &[Fraction], barred: &[Frac
     ensures sound { is_value_window amounts bounds.minimum bounds.maximum ≡ true → Lawful amounts result }
     ensures means { Means bounds.minimum bounds.maximum required.now barred.now result }
 {
-    let folded = match Folded::over_integers(required) {
-        Ok(folded) => folded,
-        Err(_) => unreachable(),
-    };
-    let thinned = match Thinned::undivided(barred) {
-        Ok(thinned) => thinned,
-        Err(_) => unreachable(),
-    };
     AmountLeaf {
         bounds,
-        required: folded.row(),
-        barred: thinned.row(),
+        required: Folded::over_integers(required).unwrap().row(),
+        barred: Thinned::undivided(barred).unwrap().row(),
     }
 }
 
@@ -109,23 +100,8 @@ impl AmountLeaf {
         ensures means { IfOk result (λ a. Means (value_of minimum) (value_of maximum) required.now barred.now a) }
         ensures worked { OnOk result (WorkedLeaves) }
     {
-        make_leaf(minimum, maximum, required, barred)
+        check_divisors(required, barred)?;
+        let bounds = window_of(minimum, maximum)?;
+        Ok(leaf_of(bounds, required, barred))
     }
-}
-
-// The maker's steps.
-fn make_leaf(
-    minimum: Option<WrittenAmount>,
-    maximum: Option<WrittenAmount>,
-    required: &[Fraction],
-    barred: &[Fraction],
-) -> Result<AmountLeaf, Fault>
-    ensures value { told result ≡ made_of minimum maximum required.now barred.now }
-    ensures sound { IfOk result (λ a. Lawful amounts a) }
-    ensures means { IfOk result (λ a. Means (value_of minimum) (value_of maximum) required.now barred.now a) }
-    ensures worked { OnOk result (WorkedLeaves) }
-{
-    check_divisors(required, barred)?;
-    let bounds = window_of(minimum, maximum)?;
-    Ok(leaf_of(bounds, required, barred))
 }

@@ -13,19 +13,10 @@ pub(crate) fn step(sole: Option<Fraction>) -> u64
     ensures low { 0 < result }
     ensures high { result < 2 ^ 63 }
 {
-    let Some(f) = sole else {
-        return 1;
-    };
-    if f.q != 1 {
-        return 1;
+    match sole {
+        Some(Fraction { p, q: 1 }) if 0 < p && p <= LARGEST => p,
+        _ => 1,
     }
-    if f.p == 0 {
-        return 1;
-    }
-    if f.p > LARGEST {
-        return 1;
-    }
-    f.p
 }
 
 // The least multiple of `step` above `v`, where that is an amount: a remainder below 0 is taken back, else the rest of a step is gone.

@@ -43,20 +43,12 @@ impl Leaf<i64> for AmountLeaf {
     }
 
     fn rule_at_most(&self, other: &AmountLeaf) -> bool {
-        if !self.required.is_at_most(&other.required) {
-            return false;
-        }
-        if !other.required.is_at_most(&self.required) {
-            return true;
-        }
-        self.barred.is_at_most(&other.barred)
+        self.required.is_at_most(&other.required)
+            && (!other.required.is_at_most(&self.required) || self.barred.is_at_most(&other.barred))
     }
 
     fn rule_admits(&self, v: i64) -> bool {
-        if !self.required.divide(v) {
-            return false;
-        }
-        !self.barred.bars(v)
+        self.required.divide(v) && !self.barred.bars(v)
     }
 
     fn next_on_grid(&self, v: i64) -> Option<i64> {
@@ -64,10 +56,7 @@ impl Leaf<i64> for AmountLeaf {
     }
 
     fn rule_covers(&self, other: &AmountLeaf) -> bool {
-        if !self.required.divide_all(&other.required) {
-            return false;
-        }
-        self.barred.bars_no_more_than(&other.barred)
+        self.required.divide_all(&other.required) && self.barred.bars_no_more_than(&other.barred)
     }
 
     fn widened(&self, other: &AmountLeaf, bounds: Bounds<i64>) -> AmountLeaf

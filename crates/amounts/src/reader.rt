@@ -3,7 +3,7 @@ ghost use Rattle.divisors.specs.Rows.{fractions};
 ghost use Rattle.leaf.specs.Reading.{Reads, ReadsAs};
 ghost use Rattle.std.specs.Prelude.{◌≡◌};
 
-use crate::amount::amount;
+use crate::amount::WrittenAmount;
 use crate::amount_leaf::{AmountLeaf, is_window, leaf_of};
 use divisors::{Fraction, Row};
 use leaf::{Bounds, Fault, Reader, Refusal, has_flag};
@@ -21,18 +21,9 @@ const LARGEST: u64 = 0x7fff_ffff_ffff_ffff;
 fn are_flags(flags: u8) -> bool
     ensures { result ≡ are_flags flags }
 {
-    if flags >= FLAGS {
-        return false;
-    }
-    if has_flag(flags, 2) {
-        if !has_flag(flags, 0) {
-            return false;
-        }
-    }
-    if has_flag(flags, 3) {
-        return has_flag(flags, 1);
-    }
-    true
+    flags < FLAGS
+        && (has_flag(flags, 0) || !has_flag(flags, 2))
+        && (has_flag(flags, 1) || !has_flag(flags, 3))
 }
 
 // The flags byte.
@@ -56,10 +47,14 @@ fn read_bound(reader: &mut Reader<'_>, present: bool, negative: bool) -> Result<
     }
     let start = reader.at;
     let magnitude = reader.number()?;
-    match amount(negative, magnitude) {
-        None => Err(Fault::at(Refusal::OutOfRange, start)),
-        Some(z) => Ok(Some(z)),
-    }
+    let written = WrittenAmount {
+        magnitude,
+        negative,
+    };
+    let amount = written
+        .value()
+        .ok_or(Fault::at(Refusal::OutOfRange, start))?;
+    Ok(Some(amount))
 }
 
 // The bounds that the flags say are present, minimum first.

@@ -1,6 +1,5 @@
-use Rattle.std.proofs.Common.{sym, subst}
+use Rattle.std.proofs.Common.{rules}
 use Rattle.divisors.specs.Rows.{fractions}
-use Rattle.divisors.specs.declared.row.Row.{Row}
 use Rattle.divisors.specs.Written.{FoldOf, ThinOf}
 use Rattle.amounts.specs.Makes.{made_leaf}
 use Rattle.amounts.proofs.amount_leaf.leaf_of.Goals as goal
@@ -9,6 +8,6 @@ pub returns : goal.returns
 returns c =
     let ws = c.args.required.now in
     let us = c.args.barred.now in
-    let folds = subst (λ (r : Row). FoldOf ws (fractions r)) (sym c.row.ensures.row) c.in-Ok.ensures.folds in
-    let thins = subst (λ (r : Row). ThinOf us (fractions r)) (sym c.row-2.ensures.row) c.in-Ok-undivided.ensures.thins in
+    let folds : FoldOf ws (fractions c.row.result) = search rules in
+    let thins : ThinOf us (fractions c.row-2.result) = search rules in
     made_leaf c.args.bounds.minimum c.args.bounds.maximum ws us c.row.result c.row-2.result folds thins c.row.ensures.folded c.row-2.ensures.thinned

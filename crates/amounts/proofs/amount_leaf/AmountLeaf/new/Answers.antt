@@ -8,7 +8,7 @@ use Rattle.amounts.specs.Meaning.{Means, value_of}
 use Rattle.divisors.specs.Written.{refusal_of_both}
 use Rattle.amounts.specs.Windows.{not_refused, window_is}
 use Rattle.amounts.proofs.Works.{worked_leaves}
-use Rattle.amounts.proofs.amount_leaf.make_leaf.Goals as goal
+use Rattle.amounts.proofs.amount_leaf.AmountLeaf.new.Goals as goal
 
 pub returns : goal.returns
 returns c =
