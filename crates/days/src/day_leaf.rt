@@ -34,10 +34,10 @@ fn bound_of(date: Option<Date>) -> Result<Option<u32>, Fault>
     let Some(date) = date else {
         return Ok(None);
     };
-    match day_number(date.year, date.month, date.day) {
-        None => Err(Fault::unplaced(Refusal::OutOfRange)),
-        Some(n) => Ok(Some(n)),
-    }
+    let day = day_number(date.year, date.month, date.day).ok_or(Fault::unplaced(
+        Refusal::OutOfRange,
+    ))?;
+    Ok(Some(day))
 }
 
 impl DayLeaf {

@@ -32,10 +32,8 @@ fn read_bound(reader: &mut Reader<'_>, present: bool) -> Result<Option<u32>, Fau
     let year = reader.number()?;
     let month = reader.number()?;
     let day = reader.number()?;
-    match day_number(year, month, day) {
-        None => Err(Fault::at(Refusal::OutOfRange, start)),
-        Some(n) => Ok(Some(n)),
-    }
+    let number = day_number(year, month, day).ok_or(Fault::at(Refusal::OutOfRange, start))?;
+    Ok(Some(number))
 }
 
 // The bounds that the flags say are present, minimum first.

@@ -2,16 +2,14 @@ ghost use Rattle.days.specs.Weekdays.{PartOf, holds, is_set, next_day, is_on_gri
 ghost use Rattle.std.specs.Prelude.{◌≡◌, Decides};
 
 use crate::calendar::LAST_DAY;
+use leaf::has_flag;
 
 // Whether the day's weekday is in the set; no number past the last day is a day.
+#[tactic(auto, unfolding(crate::specs::Weekdays::is_on_grid))]
 pub(crate) fn is_in_set(set: u8, day: u32) -> bool
     ensures { result ≡ is_on_grid set day }
 {
-    if day > LAST_DAY {
-        return false;
-    }
-    let weekday = (day + 5) % 7;
-    (set >> weekday) & 1 == 1
+    day <= LAST_DAY && has_flag(set, (day + 5) % 7)
 }
 
 // The least day after `day` whose weekday is in the set: weekdays come again after seven days.
@@ -41,5 +39,5 @@ pub(crate) fn holds_set(a: u8, b: u8) -> bool
 pub(crate) fn is_set(set: u64) -> bool
     ensures { result ≡ is_set set }
 {
-    1 <= set && set <= 127
+    (1..=127).contains(&set)
 }
