@@ -4,3 +4,5 @@ pub mod Writing
 pub mod Encodes
 pub mod Beginnings
 pub mod Hulls
+pub mod Windows
+pub mod Ends

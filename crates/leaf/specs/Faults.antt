@@ -1,5 +1,5 @@
 -- Refusals: the number of each in the table of refusals, the byte that it names, the layer that refused.
-use Rattle.std.specs.Prelude.{◌≡◌, ℕ, cond, Some, None, Ok, Err, Option, Result, ◌==◌, nat_lt}
+use Rattle.std.specs.Prelude.{◌≡◌, ℕ, cond, List, Some, None, Ok, Err, Option, Result, ◌==◌, codes, nat_lt}
 use Rattle.leaf.specs.declared.fault.Refusal.{Refusal}
 use Rattle.leaf.specs.declared.fault.Refusal.TheVariants.{TooLong, EndsEarly, BadNumber, UnknownByte, BadPart, ManyDivisors, OutOfRange, MinAboveMax, BadWeekdays, TableFull, ShortBuffer}
 use Rattle.leaf.specs.declared.fault.Layer.{Layer}
@@ -32,6 +32,13 @@ number_of ShortBuffer = 11
 -- the layer that refuses with a number: the bytes with 1 to 4, the leaf with 5 to 9, the list with 10, none with 11
 abbrev pub layer_of : ℕ → Layer
 layer_of n = cond (nat_lt n 5) Bytes (cond (nat_lt n 10) Leaf (cond (n == 10) ListLayer Neither))
+
+-- a layer's name
+abbrev pub layer_name : Layer → List ℕ
+layer_name Bytes = codes "bytes"
+layer_name Leaf = codes "leaf"
+layer_name ListLayer = codes "list"
+layer_name Neither = codes "-"
 
 -- what a fault shows
 abbrev pub shown : Fault → Refused

@@ -59,6 +59,10 @@ module _ {V : Type 0} where
   abbrev pub higher_of : (V → V → Bool) → Option V → Option V → Option V
   higher_of le a b = cond (ext_le le (upto a) (upto b)) b a
 
+  -- minimum at most maximum, where both are there
+  abbrev pub is_window_of : (V → V → Bool) → Option V → Option V → Bool
+  is_window_of le low high = ext_le le (from low) (upto high)
+
   -- no grid value g, if there is one, lies below l
   abbrev pub none_below : (V → V → Bool) → Option V → V → Bool
   none_below le None l = true
@@ -106,7 +110,7 @@ module _ {V L : Type 0} (k : Kind V L) where
 
   -- a minimum and a maximum that are values, the one at most the other
   abbrev pub is_value_window : Option V → Option V → Bool
-  is_value_window x y = is_bound x && (is_bound y && ext_le k.le (from x) (upto y))
+  is_value_window x y = is_bound x && (is_bound y && is_window_of k.le x y)
 
   abbrev pub Lawful : L → Type 0
   Lawful a = k.lawful a ≡ true

@@ -3,3 +3,4 @@ pub mod Numbers
 pub mod Encoding
 pub mod Kind
 pub mod Reading
+pub mod Windows

@@ -1,4 +1,5 @@
-ghost use Rattle.leaf.specs.Kind.{ext_le, from, higher_of, lower_of, upto, value};
+ghost use Rattle.leaf.specs.Kind.{ext_le, from, higher_of, is_window_of, lower_of, upto, value};
+ghost use Rattle.std.specs.Ordering.{partial_le};
 ghost use Rattle.std.specs.Prelude.{◌≡◌, ◌&&◌};
 
 use crate::kind::Leaf;
@@ -10,50 +11,43 @@ pub struct Bounds<V> {
     pub maximum: Option<V>,
 }
 
+impl<V: Copy + PartialOrd> Bounds<V> {
+    // Whether the minimum is at most the maximum, where both are there.
+    pub fn is_window(self) -> bool
+        ensures { result ≡ is_window_of (partial_le V.partial_cmp) self.minimum self.maximum }
+    {
+        self.minimum
+            .zip(self.maximum)
+            .is_none_or(|(low, high)| low <= high)
+    }
+}
+
 // Of two minimums, an absent one being lowest.
 pub(crate) fn is_low<V: Copy, L: Leaf<V>>(a: Option<V>, b: Option<V>) -> bool
     ensures { result ≡ ext_le L.kind.le (from a) (from b) }
 {
-    let Some(x) = a else {
-        return true;
-    };
-    let Some(y) = b else {
-        return false;
-    };
-    L::at_most(x, y)
+    a.is_none_or(|x| b.is_some_and(|y| L::at_most(x, y)))
 }
 
 // Of two maximums, an absent one being highest.
 pub(crate) fn is_high<V: Copy, L: Leaf<V>>(a: Option<V>, b: Option<V>) -> bool
     ensures { result ≡ ext_le L.kind.le (upto a) (upto b) }
 {
-    let Some(y) = b else {
-        return true;
-    };
-    let Some(x) = a else {
-        return false;
-    };
-    L::at_most(x, y)
+    b.is_none_or(|y| a.is_some_and(|x| L::at_most(x, y)))
 }
 
 // Whether a value lies in the window.
 pub fn contains<V: Copy, L: Leaf<V>>(bounds: Bounds<V>, v: V) -> bool
     ensures { result ≡ (ext_le L.kind.le (from bounds.minimum) (value v) && ext_le L.kind.le (value v) (upto bounds.maximum)) }
 {
-    if !is_low::<V, L>(bounds.minimum, Some(v)) {
-        return false;
-    }
-    is_high::<V, L>(Some(v), bounds.maximum)
+    is_low::<V, L>(bounds.minimum, Some(v)) && is_high::<V, L>(Some(v), bounds.maximum)
 }
 
 // Whether the window includes another: an absent bound is included only by an absent one.
 pub fn includes<V: Copy, L: Leaf<V>>(outer: Bounds<V>, inner: Bounds<V>) -> bool
     ensures { result ≡ (ext_le L.kind.le (from outer.minimum) (from inner.minimum) && ext_le L.kind.le (upto inner.maximum) (upto outer.maximum)) }
 {
-    if !is_low::<V, L>(outer.minimum, inner.minimum) {
-        return false;
-    }
-    is_high::<V, L>(inner.maximum, outer.maximum)
+    is_low::<V, L>(outer.minimum, inner.minimum) && is_high::<V, L>(inner.maximum, outer.maximum)
 }
 
 // The lower minimum and the higher maximum of two windows.
@@ -61,15 +55,10 @@ pub fn hull<V: Copy, L: Leaf<V>>(a: Bounds<V>, b: Bounds<V>) -> Bounds<V>
     ensures low { result.minimum ≡ lower_of L.kind.le a.minimum b.minimum }
     ensures high { result.maximum ≡ higher_of L.kind.le a.maximum b.maximum }
 {
-    let minimum = if is_low::<V, L>(a.minimum, b.minimum) {
-        a.minimum
-    } else {
-        b.minimum
-    };
-    let maximum = if is_high::<V, L>(a.maximum, b.maximum) {
-        b.maximum
-    } else {
-        a.maximum
-    };
-    Bounds { minimum, maximum }
+    let a_is_low = is_low::<V, L>(a.minimum, b.minimum);
+    let b_is_high = is_high::<V, L>(a.maximum, b.maximum);
+    Bounds {
+        minimum: if a_is_low { a.minimum } else { b.minimum },
+        maximum: if b_is_high { b.maximum } else { a.maximum },
+    }
 }

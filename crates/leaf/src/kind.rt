@@ -73,55 +73,34 @@ pub fn bounds_of<V: Copy, L: Leaf<V>>(leaf: &L) -> Bounds<V>
 pub fn admits<V: Copy, L: Leaf<V>>(leaf: &L, v: V) -> bool
     ensures { result ≡ admitted L.kind leaf.now v }
 {
-    if !contains::<V, L>(bounds_of(leaf), v) {
-        return false;
-    }
-    leaf.rule_admits(v)
+    contains::<V, L>(bounds_of(leaf), v) && leaf.rule_admits(v)
 }
 
 // Whether a stands no later than b: by rule, then minimum.
 pub fn no_later<V: Copy, L: Leaf<V>>(a: &L, b: &L) -> bool
     ensures { result ≡ before L.kind a.now b.now }
 {
-    if !a.rule_at_most(b) {
-        return false;
-    }
-    if !b.rule_at_most(a) {
-        return true;
-    }
-    is_low::<V, L>(a.minimum(), b.minimum())
+    a.rule_at_most(b) && (!b.rule_at_most(a) || is_low::<V, L>(a.minimum(), b.minimum()))
 }
 
 // Whether a leaf joins the one before it: the rules tie, and no value of their grid lies strictly between.
 pub fn adjoins<V: Copy, L: Leaf<V>>(earlier: &L, later: &L) -> bool
     ensures { result ≡ touches L.kind earlier.now later.now }
 {
-    if !earlier.rule_at_most(later) {
-        return false;
+    let ties = earlier.rule_at_most(later) && later.rule_at_most(earlier);
+    ties && match (earlier.maximum(), later.minimum()) {
+        (Some(high), Some(low)) => earlier
+            .next_on_grid(high)
+            .is_none_or(|next| L::at_most(low, next)),
+        _ => true,
     }
-    if !later.rule_at_most(earlier) {
-        return false;
-    }
-    let Some(high) = earlier.maximum() else {
-        return true;
-    };
-    let Some(low) = later.minimum() else {
-        return true;
-    };
-    let Some(next) = earlier.next_on_grid(high) else {
-        return true;
-    };
-    L::at_most(low, next)
 }
 
 // Whether a's window includes b's and its rule covers b's; the windows are looked at first.
 pub fn covers<V: Copy, L: Leaf<V>>(a: &L, b: &L) -> bool
     ensures { result ≡ covering L.kind a.now b.now }
 {
-    if !includes::<V, L>(bounds_of(a), bounds_of(b)) {
-        return false;
-    }
-    a.rule_covers(b)
+    includes::<V, L>(bounds_of(a), bounds_of(b)) && a.rule_covers(b)
 }
 
 // Two leaves of one rule joined: the lower minimum and the higher maximum.

@@ -1,4 +1,4 @@
-// What every kind of leaf shares: the interface with its laws, windows of values, refusals, and the reader of numbers.
+// What every kind of leaf shares: the interface with its laws, windows of values, refusals, and the reader of sheets.
 #![tactic(auto)]
 
 mod bounds;
@@ -7,6 +7,7 @@ mod kind;
 mod numbers;
 mod reader;
 mod sheet;
+mod written;
 
 pub use bounds::{Bounds, contains, hull, includes};
 pub use fault::{Fault, Layer, Refusal};
@@ -14,3 +15,4 @@ pub use kind::{Leaf, adjoins, admits, bounds_of, covers, join, no_later};
 pub use numbers::number;
 pub use reader::Reader;
 pub use sheet::{has_flag, rest_of};
+pub use written::WrittenBound;

@@ -13,9 +13,5 @@ pub fn rest_of<'a>(sheet: &'a [u8], start: usize) -> &'a [u8]
 pub fn has_flag(flags: u8, bit: u32) -> bool
     ensures { result ≡ has_bit flags bit }
 {
-    if bit < 8 {
-        (flags >> bit) & 1 == 1
-    } else {
-        false
-    }
+    bit < 8 && (flags >> bit) & 1 == 1
 }

@@ -1,19 +1,15 @@
 -- Lines of text one after the other.
-use Rattle.std.proofs.Common.{◌≡◌, ℕ, ◌+◌, ◌<◌, ◌≤◌, List, [], ◌∷◌, ◌++◌, length, get_or, take, drop, Ok, Result, sym, ap, ◌∙◌, arith}
-use Rattle.std.proofs.lemmas.List.{append_assoc, append-nil, length-append, length-drop, take_at, take_more}
-use Rattle.leaf.specs.declared.fault.Fault.{Fault}
-use Rattle.texts.specs.Text.{Texted, together}
+use Rattle.std.proofs.Common.{◌≡◌, ℕ, ◌+◌, ◌<◌, ◌≤◌, List, [], ◌∷◌, ◌++◌, length, get_or, take, sym, ap, ◌∙◌, zero-add, arith}
+use Rattle.std.proofs.lemmas.List.{append_assoc, append-nil, take_at, take_more}
+use Rattle.texts.specs.Text.{Wrote, over, together}
+use Rattle.texts.proofs.Writes.{fits}
 
--- what was written into a buffer of 600 bytes ends in it, and stands in front
-module _ (t old new : List ℕ) (r : Result ℕ Fault) (e : ℕ) (w : Texted t old new r) (room : 600 ≤ length old) (same : length new ≡ length old) (is : r ≡ Ok e) where
-  end_is : e ≡ length t
-  end_is = let q : Ok e ≡ Ok (length t) = sym is ∙ (w.long room).0 in cc
-
-  pub written_within : e ≤ length new
-  written_within = omega (arith, end_is, ap length (w.long room).1, length-append t (drop (length t) old), length-drop (length t) old)
-
-  pub written_front : take e new ≡ t
-  written_front = ap (take e) (w.long room).1 ∙ take_at t (drop (length t) old) e (sym end_is)
+-- what was written at the front of a buffer with room stands there
+pub written_front : (t old new : List ℕ) (r : ℕ) → Wrote old 0 t new r → length t ≤ length old → take r new ≡ t
+written_front t old new r w room =
+    let e = fits old 0 t (omega arith) in
+    let end : length t ≡ r = sym (w.end ∙ (zero-add _ ∙ ap length e)) in
+    ap (take r) (w.bytes ∙ ap (over old 0) e) ∙ take_at t _ r end
 
 module _ {X : Type 0} (text : X → List ℕ) where
   together_push : (xs : List X) (x : X) → together text (xs ++ x ∷ []) ≡ together text xs ++ text x

@@ -1,8 +1,8 @@
 -- Texts written one after another into a buffer.
-use Rattle.std.proofs.Common.{◌≡◌, ℕ, zero, suc, ◌+◌, ◌-◌, ◌<◌, ◌≤◌, true, leb, List, [], ◌∷◌, ◌++◌, length, take, drop, set, Ok, sym, refl, ap, ◌∙◌, ⊎_elim, zero-add, add-one, arith}
+use Rattle.std.proofs.Common.{◌≡◌, ℕ, zero, suc, ◌+◌, ◌-◌, ◌<◌, ◌≤◌, List, [], ◌∷◌, ◌++◌, length, take, drop, set, sym, refl, ap, ◌∙◌, ⊎_elim, add-one, arith}
 use Rattle.std.proofs.lemmas.List.{append_assoc, take_all, take-append-drop, length-append, length-take-le, take_at, drop_at, drop-drop, set_split, length-take, length-drop}
-use Rattle.std.proofs.lemmas.Bool.{cases_lt, leb-true}
-use Rattle.texts.specs.Text.{Texted, Wrote, fitting, over}
+use Rattle.std.proofs.lemmas.Bool.{cases_lt}
+use Rattle.texts.specs.Text.{Wrote, fitting, over}
 
 none_over : (old : List ℕ) (at : ℕ) → old ≡ over old at []
 none_over old at = sym (take-append-drop at old) ∙ ap (λ (k : ℕ). take at old ++ drop k old) (let e : at ≡ at + 0 = omega arith in e)
@@ -88,16 +88,3 @@ wrote_then {old} {mid} {new} {at} {r} {s} {t} {u} a b = ⊎_elim room full (case
         let ne : new ≡ old = b.bytes ∙ (ap (over mid r) eu ∙ (sym (none_over mid r) ∙ me)) in
         let w = wrote_nothing old at (t ++ u) h in
         record { end = se ∙ w.end; bytes = ne ∙ w.bytes }
-
--- a text at the front of a buffer that is long enough
-pub texted : (t old new : List ℕ) (r : ℕ) → Wrote old 0 t new r → length t ≤ 600 → true ≡ leb 600 (length old) → Texted t old new (Ok r)
-texted t old new r w l room =
-    let h = leb-true 600 (length old) (sym room) in
-    let e = fits old 0 t (omega arith) in
-    record {
-      short = λ f. absurd (omega arith);
-      long = λ _. (
-        ap (λ (n : ℕ). Ok n) (w.end ∙ (zero-add (length (fitting old 0 t)) ∙ ap length e)),
-        w.bytes ∙ (ap (over old 0) e ∙ ap (λ (n : ℕ). t ++ drop n old) (zero-add (length t))),
-      );
-    }

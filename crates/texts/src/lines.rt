@@ -1,17 +1,28 @@
-ghost use Rattle.std.specs.Prelude.{◌≡◌, ℕ, List, ◌++◌, OnOk};
-ghost use Rattle.texts.specs.Text.{Texted, together};
+ghost use Rattle.std.specs.Prelude.{◌≡◌, ℕ, ◌≤◌, List, ◌++◌, length, OnOk};
+ghost use Rattle.texts.specs.Text.{Texted, Wrote, together};
 
-use crate::put::ROOM;
-use leaf::Fault;
+use crate::put::{ROOM, has_room};
+use leaf::{Fault, Refusal};
 use std::alloc::AllocError;
 
 // What prints as a line.
 pub trait Line {
     ghost text: { Self → List ℕ };
 
+    // The line, with its line feed, at the front of the buffer, as far as there is room; the answer is where it ends.
+    fn put_line(&self, buf: &mut [u8]) -> usize
+        ensures wrote { Wrote buf.old 0 (text self.now) buf.new result }
+        ensures short { length (text self.now) ≤ 600 };
+
     // The line's text and a line feed at the front of the buffer, whose rest stays; refusal 11 where it is under 600 bytes.
-    fn write_line(&self, buf: &mut [u8]) -> Result<usize, Fault>
-        ensures { Texted (text self.now) buf.old buf.new result };
+    final fn write_line(&self, buf: &mut [u8]) -> Result<usize, Fault>
+        ensures { Texted (text self.now) buf.old buf.new result }
+    {
+        if !has_room(buf.len()) {
+            return Err(Fault::unplaced(Refusal::ShortBuffer));
+        }
+        Ok(self.put_line(buf))
+    }
 }
 
 // A line behind what is there.
@@ -19,10 +30,8 @@ pub fn append_line<L: Line>(out: &mut Vec<u8>, line: &L) -> Result<(), AllocErro
     ensures { OnOk result (out.new.items ≡ out.old.items ++ L.Line.text line.now) }
 {
     let mut buf = [0; ROOM];
-    if let Ok(end) = line.write_line(&mut buf) {
-        out.extend_from_slice(&buf[0..end])?;
-    }
-    Ok(())
+    let end = line.put_line(&mut buf);
+    out.extend_from_slice(&buf[..end])
 }
 
 // The lines one after the other behind what is there.

@@ -1,6 +1,8 @@
 ghost use Rattle.std.specs.Prelude.{◌≡◌, ◌≤◌, [], ◌∷◌, length, decimal, nat_le};
 ghost use Rattle.texts.specs.Text.{Wrote};
 
+use itoa::Buffer;
+
 // The shortest buffer for a line.
 pub(crate) const ROOM: usize = 600;
 
@@ -11,7 +13,8 @@ pub fn has_room(size: usize) -> bool
     size >= ROOM
 }
 
-// Each function writes at `at`, as far as there is room, and answers where its text ends.
+// Each function writes at `at`, as far as there is room, and answers where its text ends. By hand, not by Display: std says what a `write!`
+// wrote where it answers Ok, and not that it does.
 pub fn put_byte(buf: &mut [u8], at: usize, b: u8) -> usize
     ensures { Wrote buf.old at (b ∷ []) buf.new result }
 {
@@ -26,11 +29,10 @@ pub fn put_byte(buf: &mut [u8], at: usize, b: u8) -> usize
 pub fn put_bytes(buf: &mut [u8], at: usize, text: &[u8]) -> usize
     ensures { Wrote buf.old at text.now buf.new result }
 {
-    let mut end = at;
-    for b in text {
-        end = put_byte(buf, end, *b);
-    }
-    end
+    let start = at.min(buf.len());
+    let count = text.len().min(buf.len() - start);
+    buf[start..start + count].copy_from_slice(&text[..count]);
+    at + count
 }
 
 // A number in decimal, which is no longer than 20 digits.
@@ -38,9 +40,5 @@ pub fn put_decimal(buf: &mut [u8], at: usize, n: u64) -> usize
     ensures wrote { Wrote buf.old at (decimal n) buf.new result }
     ensures short { length (decimal n) ≤ 20 }
 {
-    if n < 10 {
-        return put_byte(buf, at, b'0' + n as u8);
-    }
-    let end = put_decimal(buf, at, n / 10);
-    put_byte(buf, end, b'0' + (n % 10) as u8)
+    put_bytes(buf, at, Buffer::new().format(n).as_bytes())
 }

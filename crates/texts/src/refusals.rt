@@ -4,8 +4,8 @@ ghost use Rattle.texts.specs.Text.{Wrote};
 ghost use Rattle.leaf.specs.Faults.{shown};
 
 use crate::lines::Line;
-use crate::put::{has_room, put_byte, put_bytes, put_decimal};
-use leaf::{Fault, Refusal};
+use crate::put::{put_byte, put_bytes, put_decimal};
+use leaf::Fault;
 
 // The byte that a refusal names, if it names one.
 fn put_place(buf: &mut [u8], at: usize, byte: Option<usize>) -> usize
@@ -19,24 +19,14 @@ fn put_place(buf: &mut [u8], at: usize, byte: Option<usize>) -> usize
     put_decimal(buf, end, place as u64)
 }
 
-fn put_refusal(buf: &mut [u8], fault: Fault) -> usize
-    ensures wrote { Wrote buf.old 0 (refusal_text (shown fault)) buf.new result }
-    ensures short { length (refusal_text (shown fault)) ≤ 600 }
-{
-    let a = put_bytes(buf, 0, b"refused ");
-    let b = put_decimal(buf, a, u64::from(fault.refusal.number()));
-    let c = put_place(buf, b, fault.byte);
-    put_byte(buf, c, 10)
-}
-
 // A refusal prints as a line.
 impl Line for Fault {
     ghost text = { λ f. refusal_text (shown f) };
 
-    fn write_line(&self, buf: &mut [u8]) -> Result<usize, Fault> {
-        if !has_room(buf.len()) {
-            return Err(Fault::unplaced(Refusal::ShortBuffer));
-        }
-        Ok(put_refusal(buf, *self))
+    fn put_line(&self, buf: &mut [u8]) -> usize {
+        let a = put_bytes(buf, 0, b"refused ");
+        let b = put_decimal(buf, a, u64::from(self.refusal.number()));
+        let c = put_place(buf, b, self.byte);
+        put_byte(buf, c, b'\n')
     }
 }

@@ -3,12 +3,12 @@ use Rattle.std.proofs.lemmas.List.{length-append}
 use Rattle.texts.specs.Refusals.{place_text, refusal_text}
 use Rattle.texts.specs.Text.{Wrote}
 use Rattle.texts.proofs.Writes.{wrote_then}
-use Rattle.texts.proofs.refusals.put_refusal.Goals as goal
+use Rattle.texts.proofs.refusals.FaultLine.put_line.Goals as goal
 
 pub returns : goal.returns
 unfolding refusal_text
 returns c =
-    let f = c.args.fault in
+    let f = c.args.self.now in
     let n = c.from.ensures ∙ c.number.ensures in
     let place = place_text f.byte in
     let all : ℕ → List ℕ = λ m. codes "refused " ++ (decimal m ++ (place ++ 10 ∷ [])) in

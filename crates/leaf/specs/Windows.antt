@@ -1,0 +1,36 @@
+-- Windows of values as written, and as they stand on a sheet behind their flags.
+use Rattle.std.specs.Prelude.{ℕ, Bool, true, false, cond, List, Some, None, Ok, Err, Option, Result}
+use Rattle.leaf.specs.declared.bounds.Bounds.{Bounds}
+use Rattle.leaf.specs.Faults.{Answer, Refused, found, refused, next, then, at_byte, unplaced}
+use Rattle.leaf.specs.Kind.{is_window_of}
+use Rattle.leaf.specs.Numbers.{has_bit}
+
+module _ {V : Type 0} where
+  -- what was written has to be a value: a maker's refusal names no byte, a reader's the first byte of the bound
+  abbrev pub valued : Option V → Result (Option V) Refused
+  valued None = Err (unplaced 7)
+  valued (Some v) = Ok (Some v)
+
+  abbrev pub value_at : ℕ → ℕ → Option V → Answer (Option V)
+  value_at at e None = refused (at_byte 7 at)
+  value_at at e (Some v) = found (Some v) e
+
+module _ {W V : Type 0} (value : W → Option V) where
+  -- a bound as written
+  abbrev pub bound : Option W → Result (Option V) Refused
+  bound None = Ok None
+  bound (Some w) = valued (value w)
+
+  -- bounds that are values, minimum at most maximum
+  abbrev pub window_of : (V → V → Bool) → Option W → Option W → Result (Bounds V) Refused
+  window_of le low high = then (bound low) (λ l. then (bound high) (λ h. cond (is_window_of le l h) (Ok (record { minimum = l; maximum = h })) (Err (unplaced 8))))
+
+  module _ (reading : Bool → List ℕ → ℕ → Answer W) where
+    -- a bound that is present is read under its sign
+    abbrev pub bound_at : Bool → Bool → List ℕ → ℕ → Answer (Option V)
+    bound_at false negative s at = found None at
+    bound_at true negative s at = next (reading negative s at) (λ w e. value_at at e (value w))
+
+    -- flags: bit 0 minimum present, bit 1 maximum present, bit 2 minimum negative, bit 3 maximum negative; the minimum comes first
+    abbrev pub bounds_at : ℕ → List ℕ → ℕ → Answer (Bounds V)
+    bounds_at f s at = next (bound_at (has_bit f 0) (has_bit f 2) s at) (λ low e. next (bound_at (has_bit f 1) (has_bit f 3) s e) (λ high g. found (record { minimum = low; maximum = high }) g))
