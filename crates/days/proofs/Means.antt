@@ -1,16 +1,14 @@
 -- A leaf admits what its bounds and its weekdays mean.
-use Rattle.std.proofs.Common.{◌≡◌, ℕ, ◌≤◌, ◌&&◌, nat_le, List, Some, None, Ok, Decides, Option, Result, refl, subst, ap, ◌∙◌, arith}
+use Rattle.std.proofs.Common.{◌≡◌, ℕ, ◌≤◌, ◌&&◌, nat_le, List, Some, None, Decides, Option, refl, subst, ap, ◌∙◌, arith}
 use Rattle.std.proofs.lemmas.Bool.{and_from, and_parts, cond_both, le-leb, leb-true}
-use Rattle.leaf.specs.Faults.{Answer, Refused, at_byte, found, next, refused}
+use Rattle.leaf.specs.Faults.{Answer, at_byte, found, next, refused}
 use Rattle.leaf.specs.Numbers.{has_bit}
 use Rattle.leaf.specs.Kind.Ext.{value}
 use Rattle.leaf.specs.Kind.{ext_le, from, upto}
-use Rattle.days.specs.Calendar.{day_of, is_day_number, weekday}
-use Rattle.days.specs.declared.calendar.Date.{Date}
+use Rattle.days.specs.Calendar.{is_day_number, weekday}
 use Rattle.days.specs.declared.day_leaf.DayLeaf.{DayLeaf}
 use Rattle.days.specs.Leaves.{is_window, leaf_of}
-use Rattle.days.specs.Making.{bound, dayed}
-use Rattle.days.specs.Meaning.{Means, ReadAs, ReadMeans, value_of}
+use Rattle.days.specs.Meaning.{Means, ReadAs, ReadMeans}
 use Rattle.days.specs.Reading.{bounds_at, flags_at, leaf_at, set_at}
 use Rattle.days.specs.Weekdays.{is_on_grid}
 
@@ -27,15 +25,6 @@ high_of (Some u) v = (λ h x e. let k : u ≡ x = cc in subst (λ (y : ℕ). v �
 next_found : {A B : Type 0} (a : Answer A) (f : A → ℕ → Answer B) (y : B) (e : ℕ) → next a f ≡ found y e → (x : A) × (m : ℕ) × (a ≡ found x m) × (f x m ≡ found y e)
 next_found (found x m) f y e h = (x, m, refl, h)
 next_found (refused r) f y e h = let z : ◌≡◌ {A = ℕ} 0 1 = cc in absurd (omega arith)
-
-dayed_is : (o : Option ℕ) (r : Option ℕ) → ◌≡◌ {A = Result (Option ℕ) Refused} (Ok r) (dayed o) → r ≡ o
-dayed_is None r e = let z : ◌≡◌ {A = ℕ} 0 1 = cc in absurd (omega arith)
-dayed_is (Some n) r e = cc
-
--- what a bound as written comes to
-pub bound_is : (d : Option Date) (r : Option ℕ) → ◌≡◌ {A = Result (Option ℕ) Refused} (Ok r) (bound d) → r ≡ value_of d
-bound_is None r e = cc
-bound_is (Some d) r e = dayed_is (day_of d.year d.month d.day) r e
 
 pub leaf_means : (low high : Option ℕ) (set : ℕ) → Means low high set (leaf_of low high set)
 unfolding is_on_grid

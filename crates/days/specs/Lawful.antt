@@ -1,16 +1,11 @@
 -- Lawful day leaves.
-use Rattle.std.specs.Prelude.{◌≡◌, ℕ, true, ◌&&◌, Some, None, Ok, Option, Result, refl}
-use Rattle.std.proofs.Common.{ap, ◌∙◌}
+use Rattle.std.specs.Prelude.{◌≡◌, ℕ, true, ◌&&◌, Some, None, Option, refl}
+use Rattle.std.proofs.Common.{◌∙◌}
 use Rattle.std.proofs.lemmas.Bool.{and_from, and_parts}
-use Rattle.leaf.specs.Faults.{Refused}
 use Rattle.leaf.specs.Kind.{Lawful, is_value_window}
-use Rattle.days.specs.declared.calendar.Date.{Date}
-use Rattle.days.specs.Calendar.{day_of, is_day_number}
 use Rattle.days.specs.Days.{days}
 use Rattle.days.specs.Leaves.{is_bound, is_window, leaf_of}
-use Rattle.days.specs.Making.{bound, dayed}
 use Rattle.days.specs.Weekdays.{is_set}
-use Rattle.days.specs.Dates.{day_small}
 
 pub same_window : (x y : Option ℕ) → (is_bound x && (is_bound y && is_window x y)) ≡ is_value_window days x y
 same_window None None = refl
@@ -35,12 +30,3 @@ widened_lawful low high set w s =
     let p = and_parts (is_bound low) (is_bound high && is_window low high) (same_window low high ∙ w) in
     let q = and_parts (is_bound high) (is_window low high) p.1 in
     leaf_lawful low high set p.0 q.0 q.1 s
-
-dayed_found : (o : Option ℕ) (r : Option ℕ) → ((n : ℕ) → o ≡ Some n → is_day_number n ≡ true) → ◌≡◌ {A = Result (Option ℕ) Refused} (Ok r) (dayed o) → is_bound r ≡ true
-dayed_found None r f e = cc
-dayed_found (Some n) r f e = let q : r ≡ Some n = cc in ap is_bound q ∙ f n refl
-
--- a bound as written is a day's
-pub bound_found : (d : Option Date) (r : Option ℕ) → ◌≡◌ {A = Result (Option ℕ) Refused} (Ok r) (bound d) → is_bound r ≡ true
-bound_found None r e = let q : r ≡ None = cc in ap is_bound q
-bound_found (Some d) r e = dayed_found (day_of d.year d.month d.day) r (λ n q. day_small _ _ _ n q) e

@@ -1,12 +1,14 @@
 -- What a day leaf admits, in the words of the dates and weekdays that were written.
-use Rattle.std.specs.Prelude.{◌≡◌, ℕ, ◌≤◌, true, List, Some, None, Decides, Option}
+use Rattle.std.specs.Prelude.{◌≡◌, ℕ, ◌≤◌, true, List, Some, Decides, Option}
 use Rattle.leaf.specs.Faults.{found}
 use Rattle.leaf.specs.Numbers.{has_bit}
 use Rattle.leaf.specs.Kind.{admits}
 use Rattle.days.specs.declared.calendar.Date.{Date}
 use Rattle.days.specs.declared.day_leaf.DayLeaf.{DayLeaf}
-use Rattle.days.specs.Calendar.{day_of, is_day_number, weekday}
+use Rattle.days.specs.Calendar.{is_day_number, weekday}
 use Rattle.days.specs.Days.{days}
+use Rattle.leaf.specs.Windows.{written}
+use Rattle.days.specs.Making.{numbered}
 use Rattle.days.specs.Reading.{bounds_at, flags_at, leaf_at, set_at}
 
 -- d is a day, no earlier than the minimum and no later than the maximum where they are there, and its weekday is in the set
@@ -35,5 +37,4 @@ ReadMeans = (s : List ℕ) (at : ℕ) (a : DayLeaf) (e : ℕ) → leaf_at s at �
 
 -- the number of a bound's date as written
 abbrev pub value_of : Option Date → Option ℕ
-value_of None = None
-value_of (Some w) = day_of w.year w.month w.day
+value_of bound = written numbered bound

@@ -1,17 +1,19 @@
 -- What is read of a day leaf is lawful, and ends past its start and within the sheet.
-use Rattle.std.specs.Prelude.{◌≡◌, ℕ, ◌<◌, ◌≤◌, Bool, true, false, List, length, Some, None, Option, nat_lt, refl}
+use Rattle.std.specs.Prelude.{◌≡◌, ℕ, ◌<◌, ◌≤◌, Bool, true, List, length, Some, nat_lt, refl}
 use Rattle.std.proofs.Common.{subst, arith}
 use Rattle.std.proofs.lemmas.Bool.{cond_both}
 use Rattle.leaf.specs.Faults.{Answer, found, refused, at_byte}
 use Rattle.leaf.specs.declared.bounds.Bounds.{Bounds}
-use Rattle.leaf.specs.Numbers.{has_bit, number_at}
+use Rattle.leaf.specs.Numbers.{number_at}
+use Rattle.leaf.proofs.Ends.{Window as Within, bounds_end as bounds_within}
+use Rattle.days.specs.declared.calendar.Date.{Date}
+use Rattle.days.specs.Making.{numbered}
 use Rattle.leaf.specs.Reading.{byte_at}
 use Rattle.leaf.specs.Kind.{WellRead}
 use Rattle.leaf.proofs.Chains.{next_both, Ends, byte_ends, ends_found, number_ends}
-use Rattle.days.specs.Calendar.{day_of}
 use Rattle.days.specs.Days.{days}
 use Rattle.days.specs.Leaves.{is_bound, is_window, leaf_of}
-use Rattle.days.specs.Reading.{bound_at, bounds_at, day_at, flags_at, leaf_at, set_at}
+use Rattle.days.specs.Reading.{bounds_at, flags_at, leaf_at, set_at, signed_date_at}
 use Rattle.days.specs.Weekdays.{is_set}
 use Rattle.days.specs.Dates.{day_small}
 use Rattle.days.specs.Lawful.{leaf_lawful}
@@ -21,38 +23,22 @@ flags_end s i =
     next_both (byte_at s i) _ (Ends s i) (λ _. tt) (λ b e p.
     cond_both (nat_lt b 4) (found b e) (refused (at_byte 4 i)) (Ends s i) (λ _. ends_found s i (byte_at s i) b e (byte_ends s i) p) (λ _. tt))
 
--- a bound that may be absent ends no earlier than it starts
-abbrev Bound : List ℕ → ℕ → Answer (Option ℕ) → Type 0
-Bound s i (found x e) = (is_bound x ≡ true) × (i ≤ e) × (e ≤ length s)
-Bound s i (refused r) = Unit {0}
-
-day_end : (s : List ℕ) (i e : ℕ) (o : Option ℕ) → ((n : ℕ) → o ≡ Some n → is_bound (Some n) ≡ true) → i ≤ e → e ≤ length s → Bound s i (day_at i e o)
-day_end s i e None f l h = tt
-day_end s i e (Some n) f l h = (f n refl, l, h)
-
-bound_end : (b : Bool) (s : List ℕ) (i : ℕ) → i ≤ length s → Bound s i (bound_at b s i)
-bound_end false s i h = (refl, omega arith, h)
-bound_end true s i h =
-    next_both (number_at s i) _ (Bound s i) (λ _. tt) (λ y e p. next_both (number_at s e) _ (Bound s i) (λ _. tt) (λ m f q. next_both (number_at s f) _ (Bound s i) (λ _. tt) (λ d g r.
+date_ends : (negative : Bool) (s : List ℕ) (i : ℕ) → Ends s i (signed_date_at negative s i)
+date_ends negative s i =
+    next_both (number_at s i) _ (Ends s i) (λ _. tt) (λ y e p. next_both (number_at s e) _ (Ends s i) (λ _. tt) (λ m f q. next_both (number_at s f) _ (Ends s i) (λ _. tt) (λ d g r.
     let a = ends_found s i (number_at s i) y e (number_ends s i) p in
     let b = ends_found s e (number_at s e) m f (number_ends s e) q in
     let c = ends_found s f (number_at s f) d g (number_ends s f) r in
-    day_end s i g (day_of y m d) (λ n z. day_small y m d n z) (omega (arith, a.0, b.0, c.0)) c.1)))
+    (omega (arith, a.0, b.0, c.0), c.1))))
 
-bound_known : (s : List ℕ) (i : ℕ) (a : Answer (Option ℕ)) (x : Option ℕ) (e : ℕ) → Bound s i a → a ≡ found x e → (is_bound x ≡ true) × (i ≤ e) × (e ≤ length s)
-bound_known s i a x e h q = subst (Bound s i) q h
+small : (d : Date) (n : ℕ) → numbered d ≡ Some n → is_bound (Some n) ≡ true
+small d n q = day_small d.year d.month d.day n q
 
 abbrev Window : List ℕ → ℕ → Answer (Bounds ℕ) → Type 0
-Window s i (found w e) = (is_bound w.minimum ≡ true) × (is_bound w.maximum ≡ true) × (i ≤ e) × (e ≤ length s)
-Window s i (refused r) = Unit {0}
+Window = Within numbered signed_date_at is_bound date_ends refl small
 
 bounds_end : (f : ℕ) (s : List ℕ) (i : ℕ) → i ≤ length s → Window s i (bounds_at f s i)
-bounds_end f s i h =
-    next_both (bound_at (has_bit f 0) s i) _ (Window s i) (λ _. tt) (λ low e p.
-    let a = bound_known s i (bound_at (has_bit f 0) s i) low e (bound_end (has_bit f 0) s i h) p in
-    next_both (bound_at (has_bit f 1) s e) _ (Window s i) (λ _. tt) (λ high g q.
-    let b = bound_known s e (bound_at (has_bit f 1) s e) high g (bound_end (has_bit f 1) s e a.2) q in
-    (a.0, b.0, omega (arith, a.1, b.1), b.2)))
+bounds_end f s i h = bounds_within numbered signed_date_at is_bound date_ends refl small f s i h
 
 abbrev Weekdays : List ℕ → ℕ → Answer ℕ → Type 0
 Weekdays s i (found n e) = (is_set n ≡ true) × (i < e) × (e ≤ length s)

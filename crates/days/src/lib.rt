@@ -7,6 +7,7 @@ mod kind;
 mod reader;
 mod text;
 mod weekdays;
+mod written;
 
 pub use calendar::{Date, date_of, day_number};
 pub use day_leaf::DayLeaf;

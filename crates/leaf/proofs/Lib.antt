@@ -6,3 +6,4 @@ pub mod Beginnings
 pub mod Hulls
 pub mod Windows
 pub mod Ends
+pub mod Made

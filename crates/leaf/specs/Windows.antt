@@ -16,6 +16,11 @@ module _ {V : Type 0} where
   value_at at e (Some v) = found (Some v) e
 
 module _ {W V : Type 0} (value : W → Option V) where
+  -- what a bound as written stands for
+  abbrev pub written : Option W → Option V
+  written None = None
+  written (Some w) = value w
+
   -- a bound as written
   abbrev pub bound : Option W → Result (Option V) Refused
   bound None = Ok None

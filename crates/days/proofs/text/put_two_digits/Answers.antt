@@ -1,5 +1,5 @@
-use Rattle.texts.proofs.Writes.{wrote_then}
+use Rattle.texts.proofs.Writes.{put_then}
 use Rattle.days.proofs.text.put_two_digits.Goals as goal
 
 pub returns : goal.returns
-returns c = wrote_then c.put_byte-next.ensures c.put_byte.ensures
+returns c = put_then c.byte.ensures c.byte-2.ensures

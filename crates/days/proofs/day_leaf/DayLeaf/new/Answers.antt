@@ -1,21 +1,25 @@
-use Rattle.std.proofs.Common.{ℕ, Option, subst, rules}
+use Rattle.std.proofs.Common.{ℕ, Option, ◌∙◌, subst, rules}
+use Rattle.leaf.proofs.Made.{window_made}
+use Rattle.leaf.proofs.Windows.{nat_written}
+use Rattle.days.specs.Days.{days}
 use Rattle.days.specs.Leaves.{leaf_of}
+use Rattle.days.specs.Making.{numbered}
 use Rattle.days.specs.Meaning.{Means, value_of}
-use Rattle.days.specs.Lawful.{bound_found, leaf_lawful}
-use Rattle.days.proofs.Means.{bound_is, leaf_means}
+use Rattle.days.specs.Lawful.{widened_lawful}
+use Rattle.days.specs.Dates.{day_small}
+use Rattle.days.proofs.Means.{leaf_means}
 use Rattle.days.proofs.day_leaf.DayLeaf.new.Goals as goal
 
 pub returns : goal.returns
 returns c =
-    let l = c.in_ok-low.low in
-    let h = c.in_ok-high.high in
     let set = c.args.set in
-    let low = bound_is c.args.minimum l (search rules) in
-    let high = bound_is c.args.maximum h (search rules) in
+    let b = c.in_ok-bounds.bounds in
+    let q = c.in_ok-bounds.ensures ∙ nat_written numbered c.args.minimum c.args.maximum in
+    let w = window_made days numbered (λ d n e. day_small d.year d.month d.day n e) c.args.minimum c.args.maximum b q in
     record {
-      value = search rules;
-      sound = leaf_lawful l h set (bound_found c.args.minimum l (search rules)) (bound_found c.args.maximum h (search rules)) (search rules) (search rules);
+      value = search (rules, q);
+      sound = widened_lawful b.minimum b.maximum set w.window (search rules);
       means =
-          subst (λ (y : Option ℕ). Means (value_of c.args.minimum) y set (leaf_of l h set)) high
-          (subst (λ (x : Option ℕ). Means x h set (leaf_of l h set)) low (leaf_means l h set));
+          subst (λ (y : Option ℕ). Means (value_of c.args.minimum) y set (leaf_of b.minimum b.maximum set)) w.maximum
+          (subst (λ (x : Option ℕ). Means x b.maximum set (leaf_of b.minimum b.maximum set)) w.minimum (leaf_means b.minimum b.maximum set));
     }
