@@ -1,8 +1,10 @@
 -- Texts written one after another into a buffer.
-use Rattle.std.proofs.Common.{◌≡◌, ℕ, zero, suc, ◌+◌, ◌-◌, ◌<◌, ◌≤◌, List, [], ◌∷◌, ◌++◌, length, take, drop, set, sym, refl, ap, ◌∙◌, ⊎_elim, add-one, arith}
-use Rattle.std.proofs.lemmas.List.{append_assoc, take_all, take-append-drop, length-append, length-take-le, take_at, drop_at, drop-drop, set_split, length-take, length-drop}
+use Rattle.std.proofs.Common.{◌≡◌, ℕ, zero, suc, ◌+◌, ◌-◌, ◌<◌, ◌≤◌, List, [], ◌∷◌, ◌++◌, length, take, drop, sym, refl, ap, ◌∙◌, ⊎_elim, arith}
+use Rattle.std.proofs.lemmas.List.{append_assoc, take_all, take-append-drop, length-append, length-take-le, take_at, drop_at, drop-drop, length-take, length-drop}
 use Rattle.std.proofs.lemmas.Bool.{cases_lt}
 use Rattle.texts.specs.Text.{Wrote, fitting, over}
+use Rattle.texts.specs.Cursors.{Put}
+use Rattle.texts.specs.declared.cursor.Cursor.{Cursor}
 
 none_over : (old : List ℕ) (at : ℕ) → old ≡ over old at []
 none_over old at = sym (take-append-drop at old) ∙ ap (λ (k : ℕ). take at old ++ drop k old) (let e : at ≡ at + 0 = omega arith in e)
@@ -23,14 +25,6 @@ wrote_none buf at = let e = take_all {A = ℕ} (length buf - at) [] (omega arith
 -- a text that has room is written whole
 pub fits : (buf : List ℕ) (at : ℕ) (t : List ℕ) → at + length t ≤ length buf → fitting buf at t ≡ t
 fits buf at t h = take_all (length buf - at) t (omega arith)
-
-pub wrote_byte : (buf : List ℕ) (at b : ℕ) → at < length buf → Wrote buf at (b ∷ []) (set buf at b) (at + 1)
-wrote_byte buf at b h =
-    let e = fits buf at (b ∷ []) (omega arith) in
-    record {
-      end = sym (ap (λ (t : List ℕ). at + length t) e);
-      bytes = set_split buf at b h ∙ (ap (λ n. take at buf ++ b ∷ drop n buf) (sym (add-one at)) ∙ ap (over buf at) (sym e));
-    }
 
 over_over : (old : List ℕ) (at : ℕ) (t u : List ℕ) → at ≤ length old → over (over old at t) (at + length t) u ≡ over old at (t ++ u)
 over_over old at t u h =
@@ -88,3 +82,10 @@ wrote_then {old} {mid} {new} {at} {r} {s} {t} {u} a b = ⊎_elim room full (case
         let ne : new ≡ old = b.bytes ∙ (ap (over mid r) eu ∙ (sym (none_over mid r) ∙ me)) in
         let w = wrote_nothing old at (t ++ u) h in
         record { end = se ∙ w.end; bytes = ne ∙ w.bytes }
+
+-- and behind a cursor
+pub put_none : (c : Cursor) → Put c [] c
+put_none c = record { wrote = wrote_none c.buf.now c.at; same = refl }
+
+pub put_then : {old mid new : Cursor} {t u : List ℕ} → Put old t mid → Put mid u new → Put old (t ++ u) new
+put_then a b = record { wrote = wrote_then a.wrote b.wrote; same = b.same ∙ a.same }

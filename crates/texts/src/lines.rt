@@ -1,6 +1,8 @@
 ghost use Rattle.std.specs.Prelude.{◌≡◌, ℕ, ◌≤◌, List, ◌++◌, length, OnOk};
-ghost use Rattle.texts.specs.Text.{Texted, Wrote, together};
+ghost use Rattle.texts.specs.Cursors.{Put};
+ghost use Rattle.texts.specs.Text.{Texted, together};
 
+use crate::cursor::Cursor;
 use crate::put::{ROOM, has_room};
 use leaf::{Fault, Refusal};
 use std::alloc::AllocError;
@@ -9,9 +11,9 @@ use std::alloc::AllocError;
 pub trait Line {
     ghost text: { Self → List ℕ };
 
-    // The line, with its line feed, at the front of the buffer, as far as there is room; the answer is where it ends.
-    fn put_line(&self, buf: &mut [u8]) -> usize
-        ensures wrote { Wrote buf.old 0 (text self.now) buf.new result }
+    // The line's text and a line feed, as far as there is room.
+    fn put(&self, out: &mut Cursor)
+        ensures put { Put out.old (text self.now) out.new }
         ensures short { length (text self.now) ≤ 600 };
 
     // The line's text and a line feed at the front of the buffer, whose rest stays; refusal 11 where it is under 600 bytes.
@@ -21,7 +23,9 @@ pub trait Line {
         if !has_room(buf.len()) {
             return Err(Fault::unplaced(Refusal::ShortBuffer));
         }
-        Ok(self.put_line(buf))
+        let mut out = Cursor { buf, at: 0 };
+        self.put(&mut out);
+        Ok(out.at)
     }
 }
 
@@ -30,7 +34,12 @@ pub fn append_line<L: Line>(out: &mut Vec<u8>, line: &L) -> Result<(), AllocErro
     ensures { OnOk result (out.new.items ≡ out.old.items ++ L.Line.text line.now) }
 {
     let mut buf = [0; ROOM];
-    let end = line.put_line(&mut buf);
+    let mut cursor = Cursor {
+        buf: &mut buf,
+        at: 0,
+    };
+    line.put(&mut cursor);
+    let end = cursor.at;
     out.extend_from_slice(&buf[..end])
 }
 
