@@ -16,6 +16,11 @@ module _ {V : Type 0} where
   value_at at e (Some v) = found (Some v) e
 
 module _ {W V : Type 0} (value : W → Option V) where
+  -- the value of a bound as written
+  abbrev pub meant : Option W → Option V
+  meant None = None
+  meant (Some w) = value w
+
   -- a bound as written
   abbrev pub bound : Option W → Result (Option V) Refused
   bound None = Ok None
