@@ -10,16 +10,8 @@ use crate::sheet::rest_of;
 const MOST: u32 = 10;
 
 // The number whose first byte stands at `start`, and the place past its last byte.
+#[tactic(auto, using(crate::proofs::Beginnings::numbers_stand), unfolding(crate::specs::Numbers::number_at))]
 pub fn number(sheet: &[u8], start: usize) -> Result<(u64, usize), Fault>
-    ensures within { IfOk result (λ p. (start < p.1) × (p.1 ≤ length sheet.now)) }
-    ensures reads { seen result ≡ number_at sheet.now start }
-    ensures laws { NumbersStand }
-{
-    read_number(sheet, start)
-}
-
-// The groups from `start` on, and the place past the last.
-fn read_number(sheet: &[u8], start: usize) -> Result<(u64, usize), Fault>
     ensures within { IfOk result (λ p. (start < p.1) × (p.1 ≤ length sheet.now)) }
     ensures reads { seen result ≡ number_at sheet.now start }
     ensures laws { NumbersStand }
