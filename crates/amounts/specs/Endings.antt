@@ -1,18 +1,21 @@
 -- What is read of an amount leaf is lawful, ends past its start and within the sheet, and means what is written.
-use Rattle.std.specs.Prelude.{◌≡◌, ℕ, zero, suc, ◌^◌, ◌<◌, ◌≤◌, Bool, true, false, cond, ◌&&◌, List, length, ℤ, Some, None, Option, nat_le, nat_lt, refl}
+use Rattle.std.specs.Prelude.{◌≡◌, ℕ, zero, suc, ◌^◌, ◌<◌, ◌≤◌, Bool, true, cond, ◌&&◌, List, length, ℤ, Some, None, nat_le, nat_lt, refl}
 use Rattle.std.proofs.Common.{ap, subst, ◌∙◌, arith}
 use Rattle.std.proofs.lemmas.Bool.{and_from, and_parts, cond_both, cond-true, le-leb, ltb-false}
 use Rattle.divisors.specs.declared.fraction.Fraction.{Fraction}
 use Rattle.divisors.specs.Fractions.{in_range}
 use Rattle.divisors.specs.Written.{are_in_range, refusal_of}
 use Rattle.leaf.specs.Faults.{Answer, found, refused, at_byte}
-use Rattle.leaf.specs.Numbers.{has_bit, number_at}
+use Rattle.leaf.specs.Numbers.{number_at}
 use Rattle.leaf.specs.Reading.{byte_at}
 use Rattle.leaf.specs.Kind.{is_bound}
 use Rattle.leaf.proofs.Chains.{next_both, Ends, byte_ends, ends_found, number_ends}
 use Rattle.amounts.specs.Amounts.{amounts}
-use Rattle.amounts.specs.Reading.{Written, amount_at, are_flags, bound_at, bounds_at, flags_at, fraction_at, fractions_at, head_at, list_at, lists_at, part_at, written_at}
-use Rattle.amounts.specs.Values.{amount_of}
+use Rattle.amounts.specs.Reading.{Written, amount_at, are_flags, bounds_at, flags_at, fraction_at, fractions_at, head_at, list_at, lists_at, part_at, written_at}
+use Rattle.leaf.proofs.Ends.{Window as Within, bounds_end as bounds_within}
+use Rattle.leaf.specs.declared.bounds.Bounds.{Bounds}
+use Rattle.amounts.specs.declared.amount.WrittenAmount.{WrittenAmount}
+use Rattle.amounts.specs.Making.{amount_in}
 use Rattle.amounts.specs.Windows.{amount_is}
 
 flags_end : (s : List ℕ) (i : ℕ) → Ends s i (flags_at s i)
@@ -20,40 +23,24 @@ flags_end s i =
     next_both (byte_at s i) _ (Ends s i) (λ _. tt) (λ b e p.
     cond_both (are_flags b) (found b e) (refused (at_byte 4 i)) (Ends s i) (λ _. ends_found s i (byte_at s i) b e (byte_ends s i) p) (λ _. tt))
 
--- a bound that may be absent ends no earlier than it starts
-abbrev Bound : List ℕ → ℕ → Answer (Option ℤ) → Type 0
-Bound s i (found x e) = (is_bound amounts x ≡ true) × (i ≤ e) × (e ≤ length s)
-Bound s i (refused r) = Unit {0}
+amount_ends : (negative : Bool) (s : List ℕ) (i : ℕ) → Ends s i (amount_at negative s i)
+amount_ends negative s i = next_both (number_at s i) _ (Ends s i) (λ _. tt) (λ m e p. ends_found s i (number_at s i) m e (number_ends s i) p)
 
-amount_end : (s : List ℕ) (i e : ℕ) (negative : Bool) (m : ℕ) (o : Option ℤ) → amount_of negative m ≡ o → i ≤ e → e ≤ length s → Bound s i (amount_at i e o)
-amount_end s i e negative m None q l h = tt
-amount_end s i e negative m (Some z) q l h = (amount_is negative m z q, l, h)
+amount_known : (w : WrittenAmount) (z : ℤ) → amount_in w ≡ Some z → is_bound amounts (Some z) ≡ true
+amount_known w z q = amount_is w.negative w.magnitude z q
 
-bound_end : (b negative : Bool) (s : List ℕ) (i : ℕ) → i ≤ length s → Bound s i (bound_at b negative s i)
-bound_end false negative s i h = (refl, omega arith, h)
-bound_end true negative s i h =
-    next_both (number_at s i) _ (Bound s i) (λ _. tt) (λ m e p.
-    let a = ends_found s i (number_at s i) m e (number_ends s i) p in
-    amount_end s i e negative m (amount_of negative m) refl (omega (arith, a.0)) a.1)
-
-abbrev Window : List ℕ → ℕ → Answer (Option ℤ × Option ℤ) → Type 0
-Window s i (found w e) = (is_bound amounts w.0 ≡ true) × (is_bound amounts w.1 ≡ true) × (i ≤ e) × (e ≤ length s)
-Window s i (refused r) = Unit {0}
+abbrev Window : List ℕ → ℕ → Answer (Bounds ℤ) → Type 0
+Window = Within amount_in amount_at (is_bound amounts) amount_ends refl amount_known
 
 bounds_end : (f : ℕ) (s : List ℕ) (i : ℕ) → i ≤ length s → Window s i (bounds_at f s i)
-bounds_end f s i h =
-    next_both (bound_at (has_bit f 0) (has_bit f 2) s i) _ (Window s i) (λ _. tt) (λ low e p.
-    let a = subst (Bound s i) p (bound_end (has_bit f 0) (has_bit f 2) s i h) in
-    next_both (bound_at (has_bit f 1) (has_bit f 3) s e) _ (Window s i) (λ _. tt) (λ high g q.
-    let b = subst (Bound s e) q (bound_end (has_bit f 1) (has_bit f 3) s e a.2) in
-    (a.0, b.0, omega (arith, a.1, b.1), b.2)))
+bounds_end f s i h = bounds_within amount_in amount_at (is_bound amounts) amount_ends refl amount_known f s i h
 
 -- flags and bounds end past their start
-abbrev Head : List ℕ → ℕ → Answer (Option ℤ × Option ℤ) → Type 0
-Head s i (found w e) = (is_bound amounts w.0 ≡ true) × (is_bound amounts w.1 ≡ true) × (i < e) × (e ≤ length s)
+abbrev Head : List ℕ → ℕ → Answer (Bounds ℤ) → Type 0
+Head s i (found w e) = (is_bound amounts w.minimum ≡ true) × (is_bound amounts w.maximum ≡ true) × (i < e) × (e ≤ length s)
 Head s i (refused r) = Unit {0}
 
-later : (s : List ℕ) (i e : ℕ) (a : Answer (Option ℤ × Option ℤ)) → i < e → Window s e a → Head s i a
+later : (s : List ℕ) (i e : ℕ) (a : Answer (Bounds ℤ)) → i < e → Window s e a → Head s i a
 later s i e (found w g) l h = (h.0, h.1, omega (arith, h.2), h.3)
 later s i e (refused r) l h = tt
 

@@ -1,22 +1,19 @@
 -- The maker of amount leaves, and its refusals in their order: divisors (5, 6), amounts (7), the window (8).
-use Rattle.std.specs.Prelude.{ℕ, cond, List, ℤ, Some, None, Ok, Err, Option, Result}
+use Rattle.std.specs.Prelude.{ℕ, List, ℤ, Some, None, Ok, Err, Option, Result}
+use Rattle.std.specs.Int.Signed.{le_z}
 use Rattle.divisors.specs.declared.fraction.Fraction.{Fraction}
 use Rattle.divisors.specs.Written.{refusal_of_both}
 use Rattle.leaf.specs.declared.bounds.Bounds.{Bounds}
 use Rattle.leaf.specs.Faults.{Refused, then, unplaced}
+use Rattle.leaf.specs.Windows.{window_of as window_made}
 use Rattle.amounts.specs.declared.amount.WrittenAmount.{WrittenAmount}
 use Rattle.amounts.specs.declared.amount_leaf.AmountLeaf.{AmountLeaf}
 use Rattle.amounts.specs.Values.{amount_of}
-use Rattle.amounts.specs.Leaves.{is_window, leaf_of}
+use Rattle.amounts.specs.Leaves.{leaf_of}
 
-abbrev pub valued : Option ℤ → Result (Option ℤ) Refused
-valued None = Err (unplaced 7)
-valued (Some z) = Ok (Some z)
-
--- a bound as written
-abbrev pub bound : Option WrittenAmount → Result (Option ℤ) Refused
-bound None = Ok None
-bound (Some w) = valued (amount_of w.negative w.magnitude)
+-- the amount that is written
+abbrev pub amount_in : WrittenAmount → Option ℤ
+amount_in w = amount_of w.negative w.magnitude
 
 -- a refusal of the divisors comes before all else
 abbrev pub after : {A : Type 0} → Option ℕ → Result A Refused → Result A Refused
@@ -25,7 +22,7 @@ after (Some n) r = Err (unplaced n)
 
 -- bounds that are amounts, minimum at most maximum
 abbrev pub window_of : Option WrittenAmount → Option WrittenAmount → Result (Bounds ℤ) Refused
-window_of low high = then (bound low) (λ l. then (bound high) (λ h. cond (is_window l h) (Ok (record { minimum = l; maximum = h })) (Err (unplaced 8))))
+window_of low high = window_made amount_in le_z low high
 
 abbrev pub made_of : Option WrittenAmount → Option WrittenAmount → List Fraction → List Fraction → Result AmountLeaf Refused
 made_of low high ws us = after (refusal_of_both ws us) (then (window_of low high) (λ w. Ok (leaf_of w.minimum w.maximum ws us)))

@@ -1,13 +1,15 @@
 -- What an amount leaf admits, in the words of minimum, maximum, multipleOf and not, of what was written.
-use Rattle.std.specs.Prelude.{◌≡◌, ℕ, true, List, ℤ, ◌≤ℤ◌, Some, None, Decides, Option}
+use Rattle.std.specs.Prelude.{◌≡◌, ℕ, true, List, ℤ, ◌≤ℤ◌, Some, Decides, Option}
 use Rattle.divisors.specs.declared.fraction.Fraction.{Fraction}
 use Rattle.divisors.specs.Written.{Admits, Spares}
 use Rattle.leaf.specs.Faults.{found}
 use Rattle.leaf.specs.Kind.{admits}
 use Rattle.amounts.specs.declared.amount.WrittenAmount.{WrittenAmount}
 use Rattle.amounts.specs.declared.amount_leaf.AmountLeaf.{AmountLeaf}
-use Rattle.amounts.specs.Values.{amount_of, is_amount}
+use Rattle.amounts.specs.Values.{is_amount}
 use Rattle.amounts.specs.Amounts.{amounts}
+use Rattle.leaf.specs.Windows.{written}
+use Rattle.amounts.specs.Making.{amount_in}
 use Rattle.amounts.specs.Reading.{Written, leaf_at, written_at}
 
 -- v is at least the minimum and at most the maximum where they are there, its division by each required divisor gives an
@@ -24,8 +26,7 @@ Means low high ws us a = (v : ℤ) → is_amount v ≡ true → Decides (admits 
 
 -- the value of a bound as written
 abbrev pub value_of : Option WrittenAmount → Option ℤ
-value_of None = None
-value_of (Some w) = amount_of w.negative w.magnitude
+value_of bound = written amount_in bound
 
 -- what is read of a sheet admits exactly what is written there
 unfoldable pub ReadMeans : Type 0

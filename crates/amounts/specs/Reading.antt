@@ -1,14 +1,17 @@
 -- An amount leaf on a sheet: flags, the magnitudes of the bounds present, the count of required divisors and each as numerator
 -- and denominator, then the barred ones likewise.
-use Rattle.std.specs.Prelude.{ℕ, zero, suc, ◌^◌, Bool, true, false, cond, not, ◌&&◌, ◌||◌, List, [], ◌∷◌, ℤ, Some, None, Option, nat_lt}
+use Rattle.std.specs.Prelude.{ℕ, zero, suc, ◌^◌, Bool, cond, not, ◌&&◌, ◌||◌, List, [], ◌∷◌, ℤ, Option, nat_lt}
 use Rattle.divisors.specs.declared.fraction.Fraction.{Fraction}
 use Rattle.divisors.specs.declared.row.Row.{Row}
 use Rattle.divisors.specs.Rows.{fractions}
 use Rattle.leaf.specs.Faults.{Answer, found, refused, next, at_byte}
 use Rattle.leaf.specs.Numbers.{has_bit, number_at}
 use Rattle.leaf.specs.Reading.{byte_at}
+use Rattle.leaf.specs.Windows.{bounds_at as bounds_read}
+use Rattle.leaf.specs.declared.bounds.Bounds.{Bounds}
+use Rattle.amounts.specs.declared.amount.WrittenAmount.{WrittenAmount}
+use Rattle.amounts.specs.Making.{amount_in}
 use Rattle.amounts.specs.declared.amount_leaf.AmountLeaf.{AmountLeaf}
-use Rattle.amounts.specs.Values.{amount_of}
 use Rattle.amounts.specs.Leaves.{is_window, leaf_of}
 
 -- flags: bit 0 minimum present, bit 1 maximum present, bit 2 minimum negative, bit 3 maximum negative; no other bit, and no sign without its bound
@@ -18,18 +21,13 @@ are_flags f = nat_lt f 16 && ((has_bit f 0 || not (has_bit f 2)) && (has_bit f 1
 abbrev pub flags_at : List ℕ → ℕ → Answer ℕ
 flags_at s at = next (byte_at s at) (λ b e. cond (are_flags b) (found b e) (refused (at_byte 4 at)))
 
-abbrev pub amount_at : ℕ → ℕ → Option ℤ → Answer (Option ℤ)
-amount_at at e None = refused (at_byte 7 at)
-amount_at at e (Some z) = found (Some z) e
+-- an amount: a magnitude under the sign that the flags give it
+abbrev pub amount_at : Bool → List ℕ → ℕ → Answer WrittenAmount
+amount_at negative s at = next (number_at s at) (λ m e. found (record { magnitude = m; negative = negative }) e)
 
--- a bound that is present is a magnitude under its sign
-abbrev pub bound_at : Bool → Bool → List ℕ → ℕ → Answer (Option ℤ)
-bound_at false negative s at = found None at
-bound_at true negative s at = next (number_at s at) (λ m e. amount_at at e (amount_of negative m))
-
--- the minimum, then the maximum
-abbrev pub bounds_at : ℕ → List ℕ → ℕ → Answer (Option ℤ × Option ℤ)
-bounds_at f s at = next (bound_at (has_bit f 0) (has_bit f 2) s at) (λ low e. next (bound_at (has_bit f 1) (has_bit f 3) s e) (λ high g. found (low, high) g))
+-- the minimum, then the maximum, where they are there
+abbrev pub bounds_at : ℕ → List ℕ → ℕ → Answer (Bounds ℤ)
+bounds_at f s at = bounds_read amount_in amount_at f s at
 
 -- a numerator or a denominator: 1 to 2^63 - 1
 abbrev pub part_at : List ℕ → ℕ → Answer ℕ
@@ -55,7 +53,7 @@ pub record Written : Type 0 where
   pub barred : List Fraction
 
 -- flags and bounds
-abbrev pub head_at : List ℕ → ℕ → Answer (Option ℤ × Option ℤ)
+abbrev pub head_at : List ℕ → ℕ → Answer (Bounds ℤ)
 head_at s at = next (flags_at s at) (λ f e. bounds_at f s e)
 
 -- the required list, then the barred one
@@ -63,7 +61,7 @@ abbrev pub lists_at : List ℕ → ℕ → Answer (List Fraction × List Fractio
 lists_at s at = next (list_at s at) (λ ws m. next (list_at s m) (λ us e. found (ws, us) e))
 
 abbrev pub written_at : List ℕ → ℕ → Answer Written
-written_at s at = next (head_at s at) (λ w e. next (lists_at s e) (λ p end. found (record { low = w.0; high = w.1; required = p.0; barred = p.1 }) end))
+written_at s at = next (head_at s at) (λ w e. next (lists_at s e) (λ p end. found (record { low = w.minimum; high = w.maximum; required = p.0; barred = p.1 }) end))
 
 -- the window is judged after the leaf's last byte, at the flags
 abbrev pub leaf_at : List ℕ → ℕ → Answer AmountLeaf

@@ -1,5 +1,9 @@
+ghost use Rattle.amounts.specs.Making.{amount_in};
+ghost use Rattle.amounts.specs.Reading.{amount_at};
 ghost use Rattle.amounts.specs.Values.{amount_of};
 ghost use Rattle.std.specs.Prelude.{◌≡◌};
+
+use leaf::{Fault, Reader, WrittenBound};
 
 // An amount as written: a magnitude and a sign.
 #[derive(Clone, Copy)]
@@ -20,5 +24,26 @@ impl WrittenAmount {
             return None;
         }
         0i64.checked_sub_unsigned(self.magnitude)
+    }
+}
+
+// A bound of amounts is written so; on a sheet its sign stands in the flags.
+impl WrittenBound for WrittenAmount {
+    type Value = i64;
+
+    ghost value_of = { amount_in };
+
+    ghost reading = { amount_at };
+
+    fn value(self) -> Option<i64> {
+        WrittenAmount::value(self)
+    }
+
+    fn read(reader: &mut Reader<'_>, negative: bool) -> Result<WrittenAmount, Fault> {
+        let magnitude = reader.number()?;
+        Ok(WrittenAmount {
+            magnitude,
+            negative,
+        })
     }
 }

@@ -1,6 +1,6 @@
 ghost use Rattle.amounts.specs.Amounts.{amounts};
-ghost use Rattle.amounts.specs.Leaves.{is_window, leaf_of};
-ghost use Rattle.amounts.specs.Making.{after, bound, made_of, window_of};
+ghost use Rattle.amounts.specs.Leaves.{leaf_of};
+ghost use Rattle.amounts.specs.Making.{after, made_of};
 ghost use Rattle.amounts.specs.Meaning.{Means, value_of};
 ghost use Rattle.amounts.specs.Worked.{WorkedLeaves};
 ghost use Rattle.divisors.specs.Written.{refusal_of, refusal_of_both};
@@ -18,27 +18,6 @@ pub struct AmountLeaf {
     pub(crate) bounds: Bounds<i64>,
     pub(crate) required: Row,
     pub(crate) barred: Row,
-}
-
-// Whether the minimum is at most the maximum, where both are there.
-pub(crate) fn is_window(low: Option<i64>, high: Option<i64>) -> bool
-    ensures { result ≡ is_window low high }
-{
-    match (low, high) {
-        (Some(x), Some(y)) => x <= y,
-        _ => true,
-    }
-}
-
-// The amount of a bound as written.
-fn bound_of(written: Option<WrittenAmount>) -> Result<Option<i64>, Fault>
-    ensures { told result ≡ bound written }
-{
-    let Some(w) = written else {
-        return Ok(None);
-    };
-    let amount = w.value().ok_or(Fault::unplaced(Refusal::OutOfRange))?;
-    Ok(Some(amount))
 }
 
 // What is refused of the divisors.
@@ -68,24 +47,6 @@ pub(crate) fn leaf_of(bounds: Bounds<i64>, required: &[Fraction], barred: &[Frac
     }
 }
 
-// The bounds as written, if they are amounts and the minimum is at most the maximum.
-fn window_of(
-    minimum: Option<WrittenAmount>,
-    maximum: Option<WrittenAmount>,
-) -> Result<Bounds<i64>, Fault>
-    ensures { told result ≡ window_of minimum maximum }
-{
-    let low = bound_of(minimum)?;
-    let high = bound_of(maximum)?;
-    if !is_window(low, high) {
-        return Err(Fault::unplaced(Refusal::MinAboveMax));
-    }
-    Ok(Bounds {
-        minimum: low,
-        maximum: high,
-    })
-}
-
 impl AmountLeaf {
     // The leaf of bounds and divisors as written. Refused are, in this order and naming no byte: 5 a part of a divisor, 6 the number of
     // divisors, 7 an amount, 8 a minimum above the maximum.
@@ -101,7 +62,7 @@ impl AmountLeaf {
         ensures worked { OnOk result (WorkedLeaves) }
     {
         check_divisors(required, barred)?;
-        let bounds = window_of(minimum, maximum)?;
+        let bounds = Bounds::of_written(minimum, maximum)?;
         Ok(leaf_of(bounds, required, barred))
     }
 }

@@ -1,10 +1,10 @@
-ghost use Rattle.amounts.specs.Reading.{are_flags, bound_at, bounds_at, both_lists, flags_at, fraction_at, head_at, leaf_at, list_at, lists_at, part_at};
+ghost use Rattle.amounts.specs.Reading.{are_flags, both_lists, flags_at, fraction_at, head_at, leaf_at, list_at, lists_at, part_at};
 ghost use Rattle.divisors.specs.Rows.{fractions};
 ghost use Rattle.leaf.specs.Reading.{Reads, ReadsAs};
 ghost use Rattle.std.specs.Prelude.{◌≡◌};
 
 use crate::amount::WrittenAmount;
-use crate::amount_leaf::{AmountLeaf, is_window, leaf_of};
+use crate::amount_leaf::{AmountLeaf, leaf_of};
 use divisors::{Fraction, Row};
 use leaf::{Bounds, Fault, Reader, Refusal, has_flag};
 
@@ -38,40 +38,12 @@ fn read_flags(reader: &mut Reader<'_>) -> Result<u8, Fault>
     Ok(flags)
 }
 
-// A bound that is present is a magnitude under its sign.
-fn read_bound(reader: &mut Reader<'_>, present: bool, negative: bool) -> Result<Option<i64>, Fault>
-    ensures { Reads (bound_at present negative) reader.old reader.new result }
-{
-    if !present {
-        return Ok(None);
-    }
-    let start = reader.at;
-    let magnitude = reader.number()?;
-    let written = WrittenAmount {
-        magnitude,
-        negative,
-    };
-    let amount = written
-        .value()
-        .ok_or(Fault::at(Refusal::OutOfRange, start))?;
-    Ok(Some(amount))
-}
-
-// The bounds that the flags say are present, minimum first.
-fn read_bounds(reader: &mut Reader<'_>, flags: u8) -> Result<(Option<i64>, Option<i64>), Fault>
-    ensures { Reads (bounds_at flags) reader.old reader.new result }
-{
-    let low = read_bound(reader, has_flag(flags, 0), has_flag(flags, 2))?;
-    let high = read_bound(reader, has_flag(flags, 1), has_flag(flags, 3))?;
-    Ok((low, high))
-}
-
 // The flags and the bounds.
-fn read_head(reader: &mut Reader<'_>) -> Result<(Option<i64>, Option<i64>), Fault>
+fn read_head(reader: &mut Reader<'_>) -> Result<Bounds<i64>, Fault>
     ensures { Reads head_at reader.old reader.new result }
 {
     let flags = read_flags(reader)?;
-    read_bounds(reader, flags)
+    Bounds::read::<WrittenAmount>(reader, flags)
 }
 
 // A numerator or denominator, from 1 to 2^63 - 1.
@@ -127,11 +99,10 @@ pub(crate) fn read_leaf(reader: &mut Reader<'_>) -> Result<AmountLeaf, Fault>
     ensures { Reads leaf_at reader.old reader.new result }
 {
     let start = reader.at;
-    let (minimum, maximum) = read_head(reader)?;
+    let bounds = read_head(reader)?;
     let (required, barred) = read_lists(reader)?;
-    if !is_window(minimum, maximum) {
+    if !bounds.is_window() {
         return Err(Fault::at(Refusal::MinAboveMax, start));
     }
-    let bounds = Bounds { minimum, maximum };
     Ok(leaf_of(bounds, required.fractions(), barred.fractions()))
 }
