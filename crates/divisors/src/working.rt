@@ -96,11 +96,7 @@ impl Working {
         requires { self.now.count ≤ 12 }
         ensures { result ≡ (nat_lt at (length (held self.now)) && same (slice_index_or (held self.now) at none) f) }
     {
-        if at < self.count {
-            self.items[at].is_same(f)
-        } else {
-            false
-        }
+        at < self.count && self.items[at] == f
     }
 
     // `f` in its place in an ascending list, once.

@@ -12,12 +12,7 @@ use crate::working::Working;
 fn all_in_range(ws: &[Fraction]) -> bool
     ensures { result ≡ are_in_range ws.now }
 {
-    for w in ws {
-        if !w.is_in_range() {
-            return false;
-        }
-    }
-    true
+    ws.iter().all(|w| w.is_in_range())
 }
 
 // What is refused of divisors as written.
@@ -85,7 +80,7 @@ fn is_same_row(a: Row, b: Row) -> bool
         return false;
     }
     for k in 0..PLACES {
-        if !a.items[k].is_same(b.items[k]) {
+        if a.items[k] != b.items[k] {
             return false;
         }
     }

@@ -1,5 +1,7 @@
-use Rattle.std.proofs.Common.{◌≡◌, ◌*◌, ◌<◌, mul-pos, arith}
-use Rattle.divisors.proofs.Sizes.{less, turned, zero_right, against_zero}
+use Rattle.std.proofs.Common.{◌≡◌, ◌*◌, ◌/◌, ◌<◌, Ordering, subst, mul-pos, arith}
+use Rattle.std.proofs.lemmas.Cmp.{ranked}
+use Rattle.std.specs.Ordering.{MatchOrdering}
+use Rattle.divisors.proofs.Sizes.{turned, unturned, zero_right, against_zero}
 use Rattle.divisors.proofs.whole.+order.Goals as goal
 
 pub returns-then-q-eq0 : goal.returns-then-q-eq0
@@ -12,11 +14,12 @@ returns-else-r-eq0 t c =
     let right : 0 < c.args.r * c.args.q = mul-pos (omega arith) (omega arith) in
     omega arith
 
-pub returns-then-a-b : goal.returns-then-a-b
-returns-then-a-b t c = less c.args.p c.args.q c.args.r c.args.s (omega arith) (omega arith) (omega arith)
+pub returns-in-Equal : goal.returns-in-Equal
+returns-in-Equal t c =
+    let e = ranked (c.args.p / c.args.q) (c.args.r / c.args.s) c.cmp.result c.cmp.ensures in
+    turned c.args.p c.args.q c.args.r c.args.s (subst (λ (o : Ordering). MatchOrdering o (c.args.p / c.args.q < c.args.r / c.args.s) (c.args.p / c.args.q ≡ c.args.r / c.args.s) (c.args.r / c.args.s < c.args.p / c.args.q)) c.in-Equal.is e) c.order.result c.order.ensures
 
-pub returns-then-b-a : goal.returns-then-b-a
-returns-then-b-a t c = less c.args.r c.args.s c.args.p c.args.q (omega arith) (omega arith) (omega arith)
-
-pub returns-else-b-a : goal.returns-else-b-a
-returns-else-b-a t c = turned c.args.p c.args.q c.args.r c.args.s (omega arith) c.order.result c.order.ensures
+pub returns-in_default : goal.returns-in_default
+returns-in_default t c =
+    unturned c.args.p c.args.q c.args.r c.args.s (omega arith) (omega arith) c.cmp.result
+    (ranked (c.args.p / c.args.q) (c.args.r / c.args.s) c.cmp.result c.cmp.ensures) c.in_default.not-Equal
