@@ -6,6 +6,7 @@ ghost use Rattle.std.specs.Prelude.{◌≡◌};
 
 use crate::fraction::Fraction;
 use crate::whole::is_multiple;
+use std::cmp::Ordering;
 
 // Whether a whole number is a multiple of each of a list.
 pub(crate) fn all_divide(xs: &[Fraction], n: u64) -> bool
@@ -71,20 +72,17 @@ pub(crate) fn each_divided_by_one(xs: &[Fraction], ys: &[Fraction]) -> bool
 }
 
 // The order of lists: item by item, a list that ends first being lower.
+#[tactic(auto, using(crate::proofs::Lawful::order_laws))]
 pub(crate) fn is_up_to(xs: &[Fraction], ys: &[Fraction]) -> bool
     ensures value { result ≡ at_most xs.now ys.now }
     ensures laws { OrderLaws }
 {
-    for i in 0..xs.len() {
-        if i >= ys.len() {
-            return false;
-        }
-        if xs[i].is_lower(ys[i]) {
-            return true;
-        }
-        if ys[i].is_lower(xs[i]) {
-            return false;
+    for (x, y) in xs.iter().zip(ys) {
+        match x.cmp(*y) {
+            Ordering::Less => return true,
+            Ordering::Greater => return false,
+            Ordering::Equal => {}
         }
     }
-    true
+    xs.len() <= ys.len()
 }

@@ -2,8 +2,7 @@ ghost use Rattle.divisors.specs.Dividing.{bars_no_more, divide_all};
 ghost use Rattle.divisors.specs.Fractions.{is_multiple};
 ghost use Rattle.divisors.specs.Laws.{BarredLaws, OrderLaws, RequiredLaws};
 ghost use Rattle.divisors.specs.Lists.{at_most, every, sole_of, some};
-ghost use Rattle.divisors.specs.Rows.{fractions};
-ghost use Rattle.divisors.specs.Rows.{padded};
+ghost use Rattle.divisors.specs.Rows.{fractions, padded};
 ghost use Rattle.divisors.specs.Written.{refused};
 ghost use Rattle.std.specs.Prelude.{◌≡◌, ◌<◌, ◌≤◌, true, [], ◌∷◌, ◌++◌, length, if◌then◌else◌, nat_lt, OnErr, OnOk, unsigned_abs};
 
@@ -20,7 +19,7 @@ pub(crate) const PLACES: usize = 6;
 pub(crate) const NONE: Fraction = Fraction { p: 0, q: 0 };
 
 // Fractions in the first `count` of six places: plain, so that it can lie in a table.
-#[derive(Clone, Copy)]
+#[derive(Clone, Copy, PartialEq, Eq, Debug)]
 pub struct Row {
     pub(crate) items: [Fraction; 6],
     pub(crate) count: usize,

@@ -15,36 +15,24 @@ fn all_in_range(ws: &[Fraction]) -> bool
     ws.iter().all(|w| w.is_in_range())
 }
 
-// What is refused of divisors as written.
-pub(crate) fn check_list(ws: &[Fraction]) -> Result<(), Refusal>
-    ensures { refused result ≡ refusal_of ws.now }
+// What is refused of required and barred divisors as written: 5 of either list before 6 of either.
+pub fn check(required: &[Fraction], barred: &[Fraction]) -> Result<(), Refusal>
+    ensures { refused result ≡ refusal_of_both required.now barred.now }
 {
-    if !all_in_range(ws) {
+    if !all_in_range(required) || !all_in_range(barred) {
         return Err(Refusal::OutOfRange);
     }
-    if ws.len() > PLACES {
+    if required.len() > PLACES || barred.len() > PLACES {
         return Err(Refusal::TooMany);
     }
     Ok(())
 }
 
-// What is refused of required and barred divisors as written: 5 of either list before 6 of either.
-pub fn check(required: &[Fraction], barred: &[Fraction]) -> Result<(), Refusal>
-    ensures { refused result ≡ refusal_of_both required.now barred.now }
+// What is refused of one list of divisors as written.
+pub(crate) fn check_list(ws: &[Fraction]) -> Result<(), Refusal>
+    ensures { refused result ≡ refusal_of ws.now }
 {
-    if !all_in_range(required) {
-        return Err(Refusal::OutOfRange);
-    }
-    if !all_in_range(barred) {
-        return Err(Refusal::OutOfRange);
-    }
-    if required.len() > PLACES {
-        return Err(Refusal::TooMany);
-    }
-    if barred.len() > PLACES {
-        return Err(Refusal::TooMany);
-    }
-    Ok(())
+    check(ws, &[])
 }
 
 // The folded row of divisors as written.
@@ -54,8 +42,7 @@ pub(crate) fn folded_row(ws: &[Fraction]) -> Row
     ensures kept { is_folded result ≡ true }
     ensures worked { WorkedFolds }
 {
-    let mut work = Working::new();
-    work.fill(ws, 1);
+    let mut work = Working::of_written(ws, 1);
     work.fold();
     work.row()
 }
@@ -66,25 +53,9 @@ pub(crate) fn thinned_row(ws: &[Fraction]) -> Row
     ensures thins { ThinOf ws.now (fractions result) }
     ensures kept { is_thinned result ≡ true }
 {
-    let mut work = Working::new();
-    work.fill(ws, 0);
+    let mut work = Working::of_written(ws, 0);
     work.thin();
     work.row()
-}
-
-// Whether two rows are equal, free places too.
-fn is_same_row(a: Row, b: Row) -> bool
-    ensures { Decides result (a ≡ b) }
-{
-    if a.count != b.count {
-        return false;
-    }
-    for k in 0..PLACES {
-        if a.items[k] != b.items[k] {
-            return false;
-        }
-    }
-    true
 }
 
 // Whether a row holds a folded list: one that is in range and folds to itself.
@@ -92,10 +63,7 @@ pub(crate) fn is_folded(row: &Row) -> bool
     ensures { result ≡ is_folded row.now }
 {
     let list = row.fractions();
-    if !all_in_range(list) {
-        return false;
-    }
-    is_same_row(*row, folded_row(list))
+    all_in_range(list) && *row == folded_row(list)
 }
 
 // Whether a row holds a thinned list: one that is in range and thins to itself.
@@ -103,8 +71,5 @@ pub(crate) fn is_thinned(row: &Row) -> bool
     ensures { result ≡ is_thinned row.now }
 {
     let list = row.fractions();
-    if !all_in_range(list) {
-        return false;
-    }
-    is_same_row(*row, thinned_row(list))
+    all_in_range(list) && *row == thinned_row(list)
 }
