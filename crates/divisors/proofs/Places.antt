@@ -1,22 +1,14 @@
 -- A row is the front of an array: what holds at its places.
 use Rattle.std.proofs.Common.{◌≡◌, ℕ, zero, suc, ◌+◌, ◌-◌, ◌<◌, ◌≤◌, Bool, true, false, not, cond, ltb, Some, None, Option, List, [], ◌∷◌, length, get_or, take, set, sym, refl, ap, ◌∙◌, ⊎_elim, arith}
-use Rattle.std.proofs.lemmas.List.{get_or-take, length-take, length-take-le, length-set, get_or-set_same, get_or-set_other, ext_get_or}
+use Rattle.std.proofs.lemmas.List.{get_or-take, length-take-le, length-set, get_or-set_same, get_or-set_other, ext_get_or}
 use Rattle.std.proofs.lemmas.List.Edits.{length-remove, get_or-remove_below, get_or-remove_above, length-insert, get_or-insert_below, get_or-insert_at, get_or-insert_above}
 use Rattle.std.proofs.lemmas.Bool.{cases_lt, cases_order, cond-true, cond-false, le-ltb, lt-ltb}
 use Rattle.std.proofs.lemmas.List.Recursion.{is_position_or_len}
 use Rattle.std.specs.Option.{unwrap_or}
 use Rattle.std.specs.List.{insert, position_or_len, remove}
 use Rattle.divisors.specs.declared.fraction.Fraction.{Fraction}
-use Rattle.divisors.specs.Fractions.{join_of, lower, none, strip_by}
+use Rattle.divisors.specs.Fractions.{lower, none}
 use Rattle.divisors.specs.Lists.{place_of}
-
-pub join_front :
-    (xs : List Fraction) (n i k : ℕ) → i < n → k < n → join_of (get_or (take n xs) i none) (get_or (take n xs) k none) ≡ join_of (get_or xs i none) (get_or xs k none)
-join_front xs n i k h g =
-    ap (λ (f : Fraction). join_of f (get_or (take n xs) k none)) (get_or-take n xs i none h) ∙ ap (λ (f : Fraction). join_of (get_or xs i none) f) (get_or-take n xs k none g)
-
-pub below_front : (xs : List Fraction) (n k : ℕ) → k < length (take n xs) → k < n
-below_front xs n k h = omega (arith, length-take n xs)
 
 pub take_set_lt : (n : ℕ) (xs : List Fraction) (i : ℕ) (f : Fraction) → i < n → take n (set xs i f) ≡ set (take n xs) i f
 take_set_lt zero xs i f h = absurd (omega arith)
@@ -98,8 +90,3 @@ place_or f xs =
     ⊎_elim
     (λ h. ap (λ (o : Option ℕ). unwrap_or o n) (cond-true (ltb p n) (Some p) None (lt-ltb p n h)) ∙ sym e)
     (λ h. let last : n ≡ place_of f xs = omega arith in ap (λ (o : Option ℕ). unwrap_or o n) (cond-false (ltb p n) (Some p) None (le-ltb p n h)) ∙ last) (cases_lt p n)
-
-pub strip_front :
-    (xs : List Fraction) (n i k : ℕ) → i < n → k < n → strip_by (get_or (take n xs) i none) (get_or (take n xs) k none) ≡ strip_by (get_or xs i none) (get_or xs k none)
-strip_front xs n i k h g =
-    ap (λ (f : Fraction). strip_by f (get_or (take n xs) k none)) (get_or-take n xs i none h) ∙ ap (λ (f : Fraction). strip_by (get_or xs i none) f) (get_or-take n xs k none g)

@@ -1,5 +1,5 @@
 -- Fractions by size: whole parts first, then the remainders, turned over.
-use Rattle.std.proofs.Common.{◌≡◌, ℕ, suc, ◌+◌, ◌*◌, ◌/◌, ◌%◌, ◌<◌, ◌≤◌, Ordering, Less, Equal, Greater, refl, sym, ap, ◌∙◌, subst, mul-le-mul_right, mod-lt, mul_assoc, suc-mul, mul_comm, add-mul, mul-lt-mul_of_pos_right, mul-zero, div-add-mod', arith}
+use Rattle.std.proofs.Common.{◌≡◌, ℕ, suc, ◌+◌, ◌*◌, ◌/◌, ◌%◌, ◌<◌, ◌≤◌, Ordering, Less, Equal, Greater, refl, sym, ap, ◌∙◌, mul-le-mul_right, mod-lt, mul_assoc, suc-mul, mul_comm, add-mul, mul-lt-mul_of_pos_right, div-add-mod', arith}
 use Rattle.std.specs.Ordering.{MatchOrdering}
 
 parts : (p q s : ℕ) → p * s ≡ p / q * (q * s) + (p % q) * s
@@ -23,13 +23,6 @@ rests p q r s e = (
   parts p q s,
   parts r s q ∙ ap (λ (x : ℕ). x + (r % s) * q) (ap (λ (x : ℕ). r / s * x) (mul_comm s q) ∙ ap (λ (x : ℕ). x * (q * s)) (sym e)),
 )
-
-pub zero_right : (a b : ℕ) → b ≡ 0 → a * b ≡ 0
-zero_right a b e = ap (λ (x : ℕ). a * x) e ∙ mul-zero a
-
--- against 0
-pub against_zero : (m n : ℕ) → n ≡ 0 → (o : Ordering) → MatchOrdering o (m < 0) (m ≡ 0) (0 < m) → MatchOrdering o (m < n) (m ≡ n) (n < m)
-against_zero m n e o = subst (λ (z : ℕ). MatchOrdering o (m < 0) (m ≡ 0) (0 < m) → MatchOrdering o (m < z) (m ≡ z) (z < m)) (sym e) (λ h. h)
 
 pub turned :
     (p q r s : ℕ) → p / q ≡ r / s → (o : Ordering) →

@@ -1,4 +1,4 @@
-ghost use Rattle.std.specs.Prelude.{◌≡◌, ◌+◌, ◌<◌, ◌≤◌, true, ◌&&◌, [], ◌∷◌, ◌++◌, length, take, nat_lt, slice_index_or, slice_set};
+ghost use Rattle.std.specs.Prelude.{◌≡◌, ◌+◌, ◌<◌, ◌≤◌, true, ◌&&◌, [], ◌∷◌, ◌++◌, length, nat_lt, slice_index_or, slice_set};
 ghost use Rattle.divisors.specs.Fractions.{none, same};
 ghost use Rattle.divisors.specs.Lists.{place_of, put, tidy_of};
 ghost use Rattle.divisors.specs.Rows.{fractions, held, padded};
@@ -30,6 +30,7 @@ impl Working {
     }
 
     // The fraction `f` in the place of another.
+    #[tactic(auto, using(crate::proofs::Places::take_set_lt))]
     pub(crate) fn replace(&mut self, at: usize, f: Fraction)
         requires { at < self.old.count }
         ensures row { held self.new ≡ slice_set (held self.old) at f }
@@ -88,6 +89,7 @@ impl Working {
     }
 
     // `f` in its place in an ascending list, once.
+    #[tactic(auto, unfolding(crate::specs::Lists::put))]
     pub(crate) fn put(&mut self, f: Fraction)
         requires { self.old.count < 12 }
         ensures row { held self.new ≡ put f (held self.old) }
@@ -101,6 +103,7 @@ impl Working {
     }
 
     // The list made ascending, without repeats.
+    #[tactic(auto, unfolding(crate::specs::Lists::tidy_of))]
     pub(crate) fn tidy(&mut self)
         ensures row { held self.new ≡ tidy_of (held self.old) }
         ensures count { self.new.count ≤ self.old.count }
@@ -114,6 +117,7 @@ impl Working {
     }
 
     // Written divisors in lowest terms, those with a numerator above `above`, ascending, without repeats.
+    #[tactic(auto, unfolding(crate::specs::Lists::tidy_of))]
     pub(crate) fn of_written(ws: &[Fraction], above: u64) -> Working
         requires { length ws.now ≤ 12 }
         ensures row { held result ≡ tidy_of (lowest_above above ws.now) }
@@ -130,6 +134,7 @@ impl Working {
     }
 
     // The list as a plain row.
+    #[tactic(auto, using(crate::proofs::Padded::padded_row))]
     pub(crate) fn row(&self) -> Row
         requires { self.now.count ≤ 6 }
         ensures row { fractions result ≡ held self.now }

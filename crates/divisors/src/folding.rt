@@ -39,7 +39,7 @@ impl Working {
         None
     }
 
-    // The first pair that has a join is joined; false where there is none.
+    // The first pair that has a join is joined; false where there is none. A bool, for `||` and `while`: there is no more to tell.
     fn join_once(&mut self) -> bool
         ensures row { MatchBool result ((t : Pair) × FirstJoin (held self.old) t × (held self.new ≡ joined_by t (held self.old))) (NoJoin (held self.old) × (held self.new ≡ held self.old)) }
         ensures count { MatchBool result (self.new.count < self.old.count) (self.new.count ≤ self.old.count) }
@@ -59,7 +59,7 @@ impl Working {
     {
         let list = self.as_slice();
 
-        // Places, as above: a fraction does not strip itself, which is told by its place.
+        // Places, as above: a fraction does not strip itself.
         for at in 0..list.len() {
             for by in 0..list.len() {
                 if at != by {
@@ -95,6 +95,7 @@ impl Working {
     }
 
     // Joins and strips until neither happens.
+    #[tactic(auto, using(crate::proofs::Folds::folds_to))]
     pub(crate) fn fold(&mut self)
         ensures folds { FoldsTo (held self.old) (held self.new) }
         ensures value { held self.new ≡ fold_of (held self.old) }

@@ -4,7 +4,7 @@ ghost use Rattle.divisors.specs.Laws.{BarredLaws, OrderLaws, RequiredLaws};
 ghost use Rattle.divisors.specs.Lists.{at_most, every, sole_of, some};
 ghost use Rattle.divisors.specs.Rows.{fractions, padded};
 ghost use Rattle.divisors.specs.Written.{refused};
-ghost use Rattle.std.specs.Prelude.{◌≡◌, ◌<◌, ◌≤◌, true, [], ◌∷◌, ◌++◌, length, if◌then◌else◌, nat_lt, OnErr, OnOk, unsigned_abs};
+ghost use Rattle.std.specs.Prelude.{◌≡◌, ◌≤◌, true, [], ◌∷◌, ◌++◌, length, if◌then◌else◌, nat_lt, OnErr, OnOk, unsigned_abs};
 
 use crate::fraction::Fraction;
 use crate::questions::{
@@ -38,6 +38,7 @@ impl Row {
     }
 
     // `f` behind the others; refusal 6, and nothing changed, where six are held.
+    #[tactic(auto, using(crate::proofs::Padded::padded_more))]
     pub fn push(&mut self, f: Fraction) -> Result<(), Refusal>
         ensures refuses { refused result ≡ (if nat_lt (length (fractions self.old)) 6 then None else Some 6) }
         ensures pushes { OnOk result (fractions self.new ≡ fractions self.old ++ f ∷ []) }

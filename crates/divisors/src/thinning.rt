@@ -7,6 +7,7 @@ use crate::working::Working;
 
 impl Working {
     // Fractions that another of the list divides go.
+    #[tactic(auto, unfolding(crate::specs::Dividing::thin_of))]
     pub(crate) fn thin(&mut self)
         ensures row { held self.new ≡ thin_of (held self.old) }
         ensures count { self.new.count ≤ self.old.count }

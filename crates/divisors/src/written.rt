@@ -1,4 +1,4 @@
-ghost use Rattle.std.specs.Prelude.{◌≡◌, ◌≤◌, true, length, Decides};
+ghost use Rattle.std.specs.Prelude.{◌≡◌, ◌≤◌, true, length};
 ghost use Rattle.divisors.specs.Laws.{WorkedFolds};
 ghost use Rattle.divisors.specs.Rows.{fractions, is_folded, is_thinned};
 ghost use Rattle.divisors.specs.Written.{FoldOf, ThinOf, are_in_range, refusal_of, refusal_of_both, refused};
@@ -47,7 +47,7 @@ pub(crate) fn folded_row(ws: &[Fraction]) -> Row
     work.row()
 }
 
-// The thinned row of divisors as written.
+// The thinned row of divisors as written. Not one function with `folded_row`: the step between is the whole of it.
 pub(crate) fn thinned_row(ws: &[Fraction]) -> Row
     requires { (are_in_range ws.now ≡ true) × (length ws.now ≤ 6) }
     ensures thins { ThinOf ws.now (fractions result) }
@@ -66,7 +66,7 @@ pub(crate) fn is_folded(row: &Row) -> bool
     all_in_range(list) && *row == folded_row(list)
 }
 
-// Whether a row holds a thinned list: one that is in range and thins to itself.
+// Whether a row holds a thinned list: one that is in range and thins to itself. A closure in place of the row made again would be longer.
 pub(crate) fn is_thinned(row: &Row) -> bool
     ensures { result ≡ is_thinned row.now }
 {
