@@ -1,8 +1,9 @@
 -- The laws of the greatest common divisor and the least common multiple.
-use Rattle.std.proofs.Common.{◌≡◌, ℕ, zero, suc, ◌+◌, ◌*◌, ◌/◌, ◌%◌, ◌<◌, ◌≤◌, leb, Some, None, sym, refl, ap, ◌∙◌, subst, not-suc-le-zero, mod-lt, zero-lt-suc, mul_assoc, mul_comm, add-mul, one-mul, zero-mul, mul-one, mul_right_comm, arith}
+use Rattle.std.proofs.Common.{◌≡◌, ℕ, zero, suc, ◌+◌, ◌*◌, ◌/◌, ◌%◌, ◌<◌, ◌≤◌, Bool, true, false, cond, leb, Some, None, sym, refl, ap, ◌∙◌, subst, not-suc-le-zero, mod-lt, zero-lt-suc, mul_assoc, mul_comm, add-mul, one-mul, zero-mul, mul-one, mul_right_comm, arith}
 use Prim.Native.Nat.{◌∣◌}
 use native.Mathlib.Nat.{dvd_refl, dvd-zero, dvd-add_iff_left, dvd-mod_iff, dvd_antisymm, dvd-mul_left, dvd-mul_right, dvd-mul_right_of_dvd, mod-add-div, zero-div, mul-dvd-mul_left, mul-dvd-mul_right, dvd_of_mul-dvd-mul_left, pos_of_dvd_of_pos, div-mul_cancel, mul-div_cancel', dvd_of_mul-dvd-mul_right, eq-one_of_dvd-one}
 use Rattle.std.proofs.lemmas.Bool.{cond-true, cond-false, le-leb, lt-leb}
+use Rattle.std.specs.Bool.{then_some}
 use Rattle.divisors.specs.Fractions.{fitting}
 use Rattle.divisors.specs.Whole.{IsGcd, IsLcm, gcd_in, gcd_of, lcm_of}
 
@@ -127,3 +128,10 @@ parts_coprime p q h =
 
 pub quotient_pos : (p g : ℕ) → 0 < p → g ∣ p → 0 < p / g
 quotient_pos p g h d = pos_of_dvd_of_pos (subst (λ (x : ℕ). p / g ∣ x) (mul-div_cancel' g d) (dvd-mul_left (p / g) g)) h
+
+then_is : (b : Bool) (n : ℕ) → then_some b n ≡ cond b (Some n) None
+then_is true n = refl
+then_is false n = refl
+
+pub capped : (n l : ℕ) → l ≡ n → then_some (leb l 9223372036854775807) l ≡ fitting n
+capped n l e = ap (λ (x : ℕ). then_some (leb x 9223372036854775807) x) e ∙ then_is (leb n 9223372036854775807) n

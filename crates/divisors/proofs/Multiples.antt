@@ -1,8 +1,8 @@
 -- Multiples of p/q, found without the product: p divides n * q exactly when p in lowest terms divides n.
-use Rattle.std.proofs.Common.{◌≡◌, ℕ, ◌*◌, ◌/◌, ◌%◌, ◌<◌, true, eqb, ◌↔◌, sym, ap, ◌∙◌, subst, ⊎_elim, mul_assoc, mul-pos, mul-zero, zero-mul, arith}
+use Rattle.std.proofs.Common.{◌≡◌, ℕ, ◌*◌, ◌/◌, ◌%◌, ◌<◌, eqb, ◌↔◌, sym, ap, ◌∙◌, subst, ⊎_elim, mul_assoc}
 use Prim.Native.Nat.{◌∣◌}
-use native.Mathlib.Nat.{dvd-mul_right_of_dvd, dvd_of_mod-eq-zero, dvd_of_mul-dvd-mul_right, div-mul_cancel, mod-eq-zero_of_dvd, mod-zero, mul-dvd-mul_right}
-use Rattle.std.proofs.lemmas.Bool.{cases_Bool, cases_eq, both_ways, eq-eqb, eqb-true}
+use native.Mathlib.Nat.{dvd-mul_right_of_dvd, dvd_of_mod-eq-zero, dvd_of_mul-dvd-mul_right, div-mul_cancel, mod-eq-zero_of_dvd, mul-dvd-mul_right}
+use Rattle.std.proofs.lemmas.Bool.{cases_Bool, both_ways, eq-eqb, eqb-true}
 use Rattle.divisors.specs.Whole.{gcd_of}
 use Rattle.divisors.proofs.Gcds.{gcd_is, gcd_pos, coprime_divides, parts_coprime}
 
@@ -30,15 +30,3 @@ lowest_test n p q h =
     same_test (n % (p / gcd_of p q)) (n * q % p)
     (λ e. mod-eq-zero_of_dvd p (t.0 (dvd_of_mod-eq-zero (p / gcd_of p q) e)))
     (λ e. mod-eq-zero_of_dvd (p / gcd_of p q) (t.1 (dvd_of_mod-eq-zero p e)))
-
--- of 0 only 0 is a multiple
-zero_rest : (n p q : ℕ) → p ≡ 0 → n * q % p ≡ n * q
-zero_rest n p q e = ap (λ (x : ℕ). n * q % x) e ∙ mod-zero (n * q)
-
-pub zero_yes : (n p q : ℕ) → p ≡ 0 → n ≡ 0 → true ≡ eqb (n * q % p) 0
-zero_yes n p q e h = sym (eq-eqb (n * q % p) 0 (zero_rest n p q e ∙ (ap (λ (x : ℕ). x * q) h ∙ zero-mul q)))
-
-pub zero_test : (n p q : ℕ) → p ≡ 0 → 0 < n → eqb q 0 ≡ eqb (n * q % p) 0
-zero_test n p q e h =
-    same_test q (n * q % p) (λ z. zero_rest n p q e ∙ (ap (λ (x : ℕ). n * x) z ∙ mul-zero n))
-    (λ z. ⊎_elim (λ k. k) (λ k. absurd (let w : 0 < n * q = mul-pos h (omega arith) in omega (arith, sym (zero_rest n p q e) ∙ z))) (cases_eq q 0))

@@ -1,6 +1,10 @@
 -- A padded row is its fractions.
-use Rattle.std.proofs.Common.{◌≡◌, ◌+◌, ◌<◌, ◌≤◌, Bool, true, false, ◌&&◌, eqb, leb, List, [], ◌∷◌, ◌++◌, length, drop, set, Decides, sym, refl, ap, ◌∙◌, subst, ⊎_elim, arith, length-drop}
-use Rattle.std.proofs.lemmas.List.{length-set, length-take-le, take-append-drop}
+use Rattle.std.proofs.Common.{◌≡◌, ℕ, ◌+◌, ◌<◌, ◌≤◌, Bool, true, false, ◌&&◌, eqb, leb, List, [], ◌∷◌, ◌++◌, length, take, drop, set, Decides, sym, refl, ap, ◌∙◌, subst, ⊎_elim, arith, length-append, length-drop}
+use Rattle.std.proofs.lemmas.List.{drop_at, length-set, length-take-le, take-append-drop}
+use Rattle.std.proofs.lemmas.List.Folds.{list_all-append}
+use Rattle.std.proofs.lemmas.Bool.Decides.{Decides-and, Decides-at, Decides-eqb, Decides-like}
+use Rattle.std.proofs.lemmas.Slice.Eq.{slice_eq-Decides}
+use Rattle.std.specs.Cmp.Lexicographic.{pointwise}
 use Rattle.std.proofs.lemmas.Bool.{and_from, and_parts, both_ways, cases_Bool, eq-eqb, eqb-true, le-leb, leb-true}
 use Rattle.divisors.specs.declared.fraction.Fraction.{Fraction}
 use Rattle.divisors.specs.declared.row.Row.{Row}
@@ -97,3 +101,29 @@ padded_more r f n h =
     let m : every (λ g. same g none) (drop (r.count + 1) (set r.items r.count f)) ≡ true = blank_more r.items r.count f (omega arith) b.1 in
     and_from (leb (r.count + 1) 6) (eqb (length (set r.items r.count f)) 6 && every (λ g. same g none) (drop (r.count + 1) (set r.items r.count f))) l
     (and_from (eqb (length (set r.items r.count f)) 6) (every (λ g. same g none) (drop (r.count + 1) (set r.items r.count f))) e m)
+
+-- a list of at most six, with free places behind it
+pub padded_row : (xs : List Fraction) (n : ℕ) → n ≤ 6 → length xs ≡ n → padded record { items = xs ++ drop n (none ∷ none ∷ none ∷ none ∷ none ∷ none ∷ []); count = n } ≡ true
+padded_row xs n h e =
+    let ys : List Fraction = none ∷ none ∷ none ∷ none ∷ none ∷ none ∷ [] in
+    let whole : length ys ≡ 6 = refl in
+    let size : length (xs ++ drop n ys) ≡ 6 = omega (arith, length-append xs (drop n ys), length-drop n ys) in
+    let free : every (λ f. same f none) (drop n ys) ≡ true =
+    (and_parts (every (λ f. same f none) (take n ys)) (every (λ f. same f none) (drop n ys))
+    (sym (list_all-append (λ f. same f none) (take n ys) (drop n ys)) ∙ ap (every (λ f. same f none)) (take-append-drop n ys))).1 in
+    let behind : every (λ f. same f none) (drop n (xs ++ drop n ys)) ≡ true = ap (every (λ f. same f none)) (drop_at xs (drop n ys) n e) ∙ free in
+    and_from (leb n 6) (eqb (length (xs ++ drop n ys)) 6 && every (λ f. same f none) (drop n (xs ++ drop n ys))) (le-leb n 6 h)
+    (and_from (eqb (length (xs ++ drop n ys)) 6) (every (λ f. same f none) (drop n (xs ++ drop n ys))) (eq-eqb (length (xs ++ drop n ys)) 6 size) behind)
+
+pub same_decides : (a b : Fraction) → Decides (same a b) (a ≡ b)
+same_decides a b =
+    Decides-like (same a b) (λ e i. record { p = e.0 i; q = e.1 i }) (λ e. (ap (λ (f : Fraction). f.p) e, ap (λ (f : Fraction). f.q) e))
+    (Decides-and (eqb a.p b.p) (eqb a.q b.q) (Decides-eqb a.p b.p) (Decides-eqb a.q b.q))
+
+-- what `==` says of two rows, where `==` decides whether two fractions are equal
+pub row_decides :
+    (E : Fraction → Fraction → Bool) → ((a b : Fraction) → Decides (E a b) (a ≡ b)) → (r s : Row) (t : Bool) → t ≡ (pointwise E r.items s.items && eqb r.count s.count) → Decides t (r ≡ s)
+row_decides E d r s t e =
+    let parts = Decides-and (pointwise E r.items s.items) (eqb r.count s.count) (slice_eq-Decides d r.items s.items (pointwise E r.items s.items) refl) (Decides-eqb r.count s.count) in
+    Decides-like t (λ p i. record { items = p.0 i; count = p.1 i }) (λ p. (ap (λ (x : Row). x.items) p, ap (λ (x : Row). x.count) p))
+    (Decides-at t (pointwise E r.items s.items && eqb r.count s.count) e parts)

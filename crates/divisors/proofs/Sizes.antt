@@ -1,11 +1,11 @@
 -- Fractions by size: whole parts first, then the remainders, turned over.
-use Rattle.std.proofs.Common.{◌≡◌, ℕ, suc, ◌+◌, ◌*◌, ◌/◌, ◌%◌, ◌<◌, ◌≤◌, Ordering, Less, Equal, Greater, sym, ap, ◌∙◌, subst, mul-le-mul_right, mod-lt, mul_assoc, suc-mul, mul_comm, add-mul, mul-lt-mul_of_pos_right, mul-zero, div-add-mod', arith}
+use Rattle.std.proofs.Common.{◌≡◌, ℕ, suc, ◌+◌, ◌*◌, ◌/◌, ◌%◌, ◌<◌, ◌≤◌, Ordering, Less, Equal, Greater, refl, sym, ap, ◌∙◌, mul-le-mul_right, mod-lt, mul_assoc, suc-mul, mul_comm, add-mul, mul-lt-mul_of_pos_right, div-add-mod', arith}
 use Rattle.std.specs.Ordering.{MatchOrdering}
 
 parts : (p q s : ℕ) → p * s ≡ p / q * (q * s) + (p % q) * s
 parts p q s = ap (λ (x : ℕ). x * s) (sym (div-add-mod' p q)) ∙ add-mul (p / q * q) (p % q) s ∙ ap (λ (x : ℕ). x + (p % q) * s) (mul_assoc (p / q) q s)
 
-pub less : (p q r s : ℕ) → 0 < q → 0 < s → p / q < r / s → p * s < r * q
+less : (p q r s : ℕ) → 0 < q → 0 < s → p / q < r / s → p * s < r * q
 less p q r s hq hs h =
     let left = parts p q s in
     let right = parts r s q in
@@ -24,13 +24,6 @@ rests p q r s e = (
   parts r s q ∙ ap (λ (x : ℕ). x + (r % s) * q) (ap (λ (x : ℕ). r / s * x) (mul_comm s q) ∙ ap (λ (x : ℕ). x * (q * s)) (sym e)),
 )
 
-pub zero_right : (a b : ℕ) → b ≡ 0 → a * b ≡ 0
-zero_right a b e = ap (λ (x : ℕ). a * x) e ∙ mul-zero a
-
--- against 0
-pub against_zero : (m n : ℕ) → n ≡ 0 → (o : Ordering) → MatchOrdering o (m < 0) (m ≡ 0) (0 < m) → MatchOrdering o (m < n) (m ≡ n) (n < m)
-against_zero m n e o = subst (λ (z : ℕ). MatchOrdering o (m < 0) (m ≡ 0) (0 < m) → MatchOrdering o (m < z) (m ≡ z) (z < m)) (sym e) (λ h. h)
-
 pub turned :
     (p q r s : ℕ) → p / q ≡ r / s → (o : Ordering) →
     MatchOrdering o (s * (p % q) < q * (r % s)) (s * (p % q) ≡ q * (r % s)) (q * (r % s) < s * (p % q)) →
@@ -43,4 +36,15 @@ turned p q r s e o =
       | Less ↦ λ h. omega (arith, t.1, t.2)
       | Equal ↦ λ h. omega (arith, t.1, t.2)
       | Greater ↦ λ h. omega (arith, t.1, t.2)
+    ]
+
+-- whole parts that differ decide
+pub unturned :
+    (p q r s : ℕ) → 0 < q → 0 < s → (o : Ordering) → MatchOrdering o (p / q < r / s) (p / q ≡ r / s) (r / s < p / q) → (o ≡ Equal → ⊥) →
+    MatchOrdering o (p * s < r * q) (p * s ≡ r * q) (r * q < p * s)
+unturned p q r s hq hs o =
+    elim o as (λ k. MatchOrdering k (p / q < r / s) (p / q ≡ r / s) (r / s < p / q) → (k ≡ Equal → ⊥) → MatchOrdering k (p * s < r * q) (p * s ≡ r * q) (r * q < p * s)) [
+      | Less ↦ λ h _. less p q r s hq hs h
+      | Equal ↦ λ _ n. absurd (n refl)
+      | Greater ↦ λ h _. less r s p q hs hq h
     ]

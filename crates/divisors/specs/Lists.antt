@@ -1,18 +1,16 @@
 -- Lists of fractions: tests over a list, ascending lists without repeats, the order of lists.
-use Rattle.std.specs.Prelude.{ℕ, suc, Bool, true, false, cond, ◌&&◌, ◌||◌, List, [], ◌∷◌, length, Some, None, Option, nat_lt, slice_index_or}
-use Rattle.std.specs.List.{insert}
+use Rattle.std.specs.Prelude.{ℕ, suc, Bool, true, false, cond, ◌&&◌, List, [], ◌∷◌, length, Some, None, Option, nat_lt, slice_index_or}
+use Rattle.std.specs.List.{insert, list_all, list_any}
 use Rattle.divisors.specs.declared.fraction.Fraction.{Fraction}
 use Rattle.divisors.specs.Fractions.{none, same, lower}
 
 -- whether a test holds of one of a list
 abbrev pub some : (Fraction → Bool) → List Fraction → Bool
-some p [] = false
-some p (x ∷ xs) = p x || some p xs
+some p xs = list_any p xs
 
 -- whether a test holds of each of a list
 abbrev pub every : (Fraction → Bool) → List Fraction → Bool
-every p [] = true
-every p (x ∷ xs) = p x && every p xs
+every p xs = list_all p xs
 
 -- each fraction is lower than the next: ascending, without repeats
 abbrev pub ascends : List Fraction → Bool

@@ -24,12 +24,14 @@ pub(crate) struct Strip {
 impl Working {
     // The first pair that has a join, lowest left, then lowest right.
     fn first_join(&self) -> Option<Pair>
-        requires { self.now.count ≤ 12 }
         ensures { MatchOption result (NoJoin (held self.now)) (λ t. FirstJoin (held self.now) t) }
     {
-        for left in 0..self.count {
-            for right in left + 1..self.count {
-                if let Some(join) = self.items[left].checked_lcm(self.items[right]) {
+        let list = self.as_slice();
+
+        // Places, not elements: the pair of places is what is looked for.
+        for left in 0..list.len() {
+            for right in left + 1..list.len() {
+                if let Some(join) = list[left].checked_lcm(list[right]) {
                     return Some(Pair { left, right, join });
                 }
             }
@@ -37,9 +39,8 @@ impl Working {
         None
     }
 
-    // The first pair that has a join is joined; false where there is none.
+    // The first pair that has a join is joined; false where there is none. A bool, for `||` and `while`: there is no more to tell.
     fn join_once(&mut self) -> bool
-        requires { self.old.count ≤ 12 }
         ensures row { MatchBool result ((t : Pair) × FirstJoin (held self.old) t × (held self.new ≡ joined_by t (held self.old))) (NoJoin (held self.old) × (held self.new ≡ held self.old)) }
         ensures count { MatchBool result (self.new.count < self.old.count) (self.new.count ≤ self.old.count) }
     {
@@ -54,13 +55,15 @@ impl Working {
 
     // The first fraction that another strips, by the lowest other that can.
     fn first_strip(&self) -> Option<Strip>
-        requires { self.now.count ≤ 12 }
         ensures { MatchOption result (NoStrip (held self.now)) (λ t. FirstStrip (held self.now) t) }
     {
-        for at in 0..self.count {
-            for by in 0..self.count {
+        let list = self.as_slice();
+
+        // Places, as above: a fraction does not strip itself.
+        for at in 0..list.len() {
+            for by in 0..list.len() {
                 if at != by {
-                    if let Some(left) = self.items[at].without_factors_of(self.items[by]) {
+                    if let Some(left) = list[at].without_factors_of(list[by]) {
                         return Some(Strip { at, by, left });
                     }
                 }
@@ -71,7 +74,6 @@ impl Working {
 
     // The first fraction that another strips is stripped; false where there is none.
     fn strip_once(&mut self) -> bool
-        requires { self.old.count ≤ 12 }
         ensures row { MatchBool result ((t : Strip) × FirstStrip (held self.old) t × (held self.new ≡ stripped_by t (held self.old))) (NoStrip (held self.old) × (held self.new ≡ held self.old)) }
         ensures count { self.new.count ≤ self.old.count }
     {
@@ -85,21 +87,16 @@ impl Working {
 
     // One join, or else one strip; false where there is neither.
     fn step(&mut self) -> bool
-        requires { self.old.count ≤ 12 }
         ensures row { MatchBool result ((ys : List Fraction) → FoldsTo (held self.new) ys → FoldsTo (held self.old) ys) (FoldsTo (held self.old) (held self.new)) }
         ensures weight { MatchBool result (weight (held self.new) < weight (held self.old)) (0 ≤ 0) }
         ensures count { self.new.count ≤ self.old.count }
     {
-        if self.join_once() {
-            true
-        } else {
-            self.strip_once()
-        }
+        self.join_once() || self.strip_once()
     }
 
     // Joins and strips until neither happens.
+    #[tactic(auto, using(crate::proofs::Folds::folds_to))]
     pub(crate) fn fold(&mut self)
-        requires { self.old.count ≤ 12 }
         ensures folds { FoldsTo (held self.old) (held self.new) }
         ensures value { held self.new ≡ fold_of (held self.old) }
         ensures count { self.new.count ≤ self.old.count }

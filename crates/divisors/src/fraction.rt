@@ -8,7 +8,7 @@ use crate::whole::{LARGEST, gcd, is_multiple, lcm, order, stripped};
 use std::cmp::Ordering;
 
 // A fraction p/q, as written or in lowest terms.
-#[derive(Clone, Copy)]
+#[derive(Clone, Copy, PartialEq, Eq, Debug)]
 pub struct Fraction {
     pub p: u64,
     pub q: u64,
@@ -26,7 +26,7 @@ impl Fraction {
         Ok(self.lowest_terms())
     }
 
-    // The order by size: p * s against r * q.
+    // The order by size: p * s against r * q. Not an `Ord`: 1/2 and 2/4 tie, and are not equal.
     pub fn cmp(self, other: Fraction) -> Ordering
         ensures { BySize self other result }
     {
@@ -45,16 +45,7 @@ impl Fraction {
     pub fn divides_divisor(self, other: Fraction) -> bool
         ensures { result ≡ divides self other }
     {
-        if other.q == 0 {
-            return false;
-        }
-        if self.p == 0 {
-            return false;
-        }
-        if other.p % self.p != 0 {
-            return false;
-        }
-        self.q % other.q == 0
+        self.p != 0 && other.q != 0 && other.p % self.p == 0 && self.q % other.q == 0
     }
 
     // The join of two fractions, absent exactly when its numerator exceeds 2^63 - 1.
@@ -72,35 +63,17 @@ impl Fraction {
     pub fn without_factors_of(self, other: Fraction) -> Option<Fraction>
         ensures { result ≡ strip_by self other }
     {
-        if self.q != 1 {
+        if self.q != 1 || other.q != 1 || self.p == 0 {
             return None;
         }
-        if other.q != 1 {
-            return None;
-        }
-        if self.p == 0 {
-            return None;
-        }
-        match stripped(self.p, other.p) {
-            Some(p) => Some(Fraction { p, q: 1 }),
-            None => None,
-        }
+        stripped(self.p, other.p).map(|p| Fraction { p, q: 1 })
     }
 
     // Whether both parts are from 1 to 2^63 - 1.
     pub(crate) fn is_in_range(self) -> bool
         ensures { result ≡ in_range self }
     {
-        if self.p == 0 {
-            return false;
-        }
-        if self.p > LARGEST {
-            return false;
-        }
-        if self.q == 0 {
-            return false;
-        }
-        self.q <= LARGEST
+        0 < self.p && self.p <= LARGEST && 0 < self.q && self.q <= LARGEST
     }
 
     // The fraction in lowest terms; 0/0 stays.
@@ -122,31 +95,13 @@ impl Fraction {
     pub(crate) fn is_lower(self, other: Fraction) -> bool
         ensures { result ≡ lower self other }
     {
-        match self.cmp(other) {
-            Ordering::Less => true,
-            _ => false,
-        }
-    }
-
-    // Whether both parts are the same.
-    pub(crate) fn is_same(self, other: Fraction) -> bool
-        ensures { result ≡ same self other }
-    {
-        if self.p == other.p {
-            self.q == other.q
-        } else {
-            false
-        }
+        self.cmp(other).is_lt()
     }
 
     // Whether this fraction divides another one that is not the same.
     pub(crate) fn divides_other(self, other: Fraction) -> bool
         ensures { result ≡ (divides self other && not (same self other)) }
     {
-        if self.divides_divisor(other) {
-            !self.is_same(other)
-        } else {
-            false
-        }
+        self.divides_divisor(other) && self != other
     }
 }

@@ -1,6 +1,7 @@
 // Divisors p/q of integers: folding of required ones, thinning of barred ones, and the questions that rules ask of them.
 #![tactic(auto)]
 
+mod editing;
 mod folded;
 mod folding;
 mod fraction;

@@ -2,10 +2,9 @@ ghost use Rattle.divisors.specs.Dividing.{bars_no_more, divide_all};
 ghost use Rattle.divisors.specs.Fractions.{is_multiple};
 ghost use Rattle.divisors.specs.Laws.{BarredLaws, OrderLaws, RequiredLaws};
 ghost use Rattle.divisors.specs.Lists.{at_most, every, sole_of, some};
-ghost use Rattle.divisors.specs.Rows.{fractions};
-ghost use Rattle.divisors.specs.Rows.{padded};
+ghost use Rattle.divisors.specs.Rows.{fractions, padded};
 ghost use Rattle.divisors.specs.Written.{refused};
-ghost use Rattle.std.specs.Prelude.{◌≡◌, ◌<◌, ◌≤◌, true, [], ◌∷◌, ◌++◌, length, if◌then◌else◌, nat_lt, OnErr, OnOk, unsigned_abs};
+ghost use Rattle.std.specs.Prelude.{◌≡◌, ◌≤◌, true, [], ◌∷◌, ◌++◌, length, if◌then◌else◌, nat_lt, OnErr, OnOk, unsigned_abs};
 
 use crate::fraction::Fraction;
 use crate::questions::{
@@ -20,7 +19,7 @@ pub(crate) const PLACES: usize = 6;
 pub(crate) const NONE: Fraction = Fraction { p: 0, q: 0 };
 
 // Fractions in the first `count` of six places: plain, so that it can lie in a table.
-#[derive(Clone, Copy)]
+#[derive(Clone, Copy, PartialEq, Eq, Debug)]
 pub struct Row {
     pub(crate) items: [Fraction; 6],
     pub(crate) count: usize,
@@ -39,6 +38,7 @@ impl Row {
     }
 
     // `f` behind the others; refusal 6, and nothing changed, where six are held.
+    #[tactic(auto, using(crate::proofs::Padded::padded_more))]
     pub fn push(&mut self, f: Fraction) -> Result<(), Refusal>
         ensures refuses { refused result ≡ (if nat_lt (length (fractions self.old)) 6 then None else Some 6) }
         ensures pushes { OnOk result (fractions self.new ≡ fractions self.old ++ f ∷ []) }

@@ -7,7 +7,7 @@ use crate::refusal::Refusal;
 use crate::row::Row;
 use crate::written::{check_list, is_thinned, thinned_row};
 
-// A thinned list of barred divisors.
+// A thinned list of barred divisors. Not one generic type with `Folded`: what the two promise of a list has no clause in common.
 #[derive(Clone, Copy)]
 pub struct Thinned {
     row: Row,

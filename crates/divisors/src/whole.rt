@@ -26,10 +26,8 @@ pub(crate) fn lcm(a: u64, b: u64) -> Option<u64>
     if a == 0 {
         return Some(0);
     }
-    match (a / gcd(a, b)).checked_mul(b) {
-        Some(l) => { if l <= LARGEST { Some(l) } else { None } }
-        None => None,
-    }
+    let l = (a / gcd(a, b)).checked_mul(b)?;
+    (l <= LARGEST).then_some(l)
 }
 
 // `a` with all that it shares with `b` divided out.
@@ -48,9 +46,7 @@ pub(crate) fn stripped(a: u64, b: u64) -> Option<u64>
     ensures shared { IsShared a b (shared_of a b) }
 {
     let shared = a / rest(a, b);
-    if shared == 1 {
-        None
-    } else if b % shared == 0 {
+    if shared != 1 && b % shared == 0 {
         Some(a / shared)
     } else {
         None
@@ -58,12 +54,13 @@ pub(crate) fn stripped(a: u64, b: u64) -> Option<u64>
 }
 
 // Whether `n * q` is a multiple of `p`, with no product: of what is left of `p` in lowest terms `n` is a multiple.
+#[tactic(auto, using(crate::proofs::Lawful::multiples_mean))]
 pub(crate) fn is_multiple(n: u64, p: u64, q: u64) -> bool
     ensures value { result ≡ (n * q % p == 0) }
     ensures means { MultiplesMean }
 {
     if p == 0 {
-        return if n == 0 { true } else { q == 0 };
+        return n == 0 || q == 0;
     }
     n % (p / gcd(p, q)) == 0
 }
@@ -84,12 +81,9 @@ pub(crate) fn order(p: u64, q: u64, r: u64, s: u64) -> Ordering
     }
     let a = p / q;
     let b = r / s;
-    if a < b {
-        Ordering::Less
-    } else if b < a {
-        Ordering::Greater
-    } else {
-        order(s, r % s, q, p % q)
+    match a.cmp(&b) {
+        Ordering::Equal => order(s, r % s, q, p % q),
+        unequal => unequal,
     }
 }
 
@@ -97,9 +91,7 @@ pub(crate) fn order(p: u64, q: u64, r: u64, s: u64) -> Ordering
 fn sign(a: u64, b: u64) -> Ordering
     ensures { MatchOrdering result (a * b < 0) (a * b ≡ 0) (0 < a * b) }
 {
-    if a == 0 {
-        Ordering::Equal
-    } else if b == 0 {
+    if a == 0 || b == 0 {
         Ordering::Equal
     } else {
         Ordering::Greater

@@ -1,4 +1,4 @@
-ghost use Rattle.std.specs.Prelude.{◌≡◌, ◌≤◌, true, length, Decides};
+ghost use Rattle.std.specs.Prelude.{◌≡◌, ◌≤◌, true, length};
 ghost use Rattle.divisors.specs.Laws.{WorkedFolds};
 ghost use Rattle.divisors.specs.Rows.{fractions, is_folded, is_thinned};
 ghost use Rattle.divisors.specs.Written.{FoldOf, ThinOf, are_in_range, refusal_of, refusal_of_both, refused};
@@ -12,44 +12,27 @@ use crate::working::Working;
 fn all_in_range(ws: &[Fraction]) -> bool
     ensures { result ≡ are_in_range ws.now }
 {
-    for w in ws {
-        if !w.is_in_range() {
-            return false;
-        }
-    }
-    true
-}
-
-// What is refused of divisors as written.
-pub(crate) fn check_list(ws: &[Fraction]) -> Result<(), Refusal>
-    ensures { refused result ≡ refusal_of ws.now }
-{
-    if !all_in_range(ws) {
-        return Err(Refusal::OutOfRange);
-    }
-    if ws.len() > PLACES {
-        return Err(Refusal::TooMany);
-    }
-    Ok(())
+    ws.iter().all(|w| w.is_in_range())
 }
 
 // What is refused of required and barred divisors as written: 5 of either list before 6 of either.
 pub fn check(required: &[Fraction], barred: &[Fraction]) -> Result<(), Refusal>
     ensures { refused result ≡ refusal_of_both required.now barred.now }
 {
-    if !all_in_range(required) {
+    if !all_in_range(required) || !all_in_range(barred) {
         return Err(Refusal::OutOfRange);
     }
-    if !all_in_range(barred) {
-        return Err(Refusal::OutOfRange);
-    }
-    if required.len() > PLACES {
-        return Err(Refusal::TooMany);
-    }
-    if barred.len() > PLACES {
+    if required.len() > PLACES || barred.len() > PLACES {
         return Err(Refusal::TooMany);
     }
     Ok(())
+}
+
+// What is refused of one list of divisors as written.
+pub(crate) fn check_list(ws: &[Fraction]) -> Result<(), Refusal>
+    ensures { refused result ≡ refusal_of ws.now }
+{
+    check(ws, &[])
 }
 
 // The folded row of divisors as written.
@@ -59,37 +42,20 @@ pub(crate) fn folded_row(ws: &[Fraction]) -> Row
     ensures kept { is_folded result ≡ true }
     ensures worked { WorkedFolds }
 {
-    let mut work = Working::new();
-    work.fill(ws, 1);
+    let mut work = Working::of_written(ws, 1);
     work.fold();
     work.row()
 }
 
-// The thinned row of divisors as written.
+// The thinned row of divisors as written. Not one function with `folded_row`: the step between is the whole of it.
 pub(crate) fn thinned_row(ws: &[Fraction]) -> Row
     requires { (are_in_range ws.now ≡ true) × (length ws.now ≤ 6) }
     ensures thins { ThinOf ws.now (fractions result) }
     ensures kept { is_thinned result ≡ true }
 {
-    let mut work = Working::new();
-    work.fill(ws, 0);
+    let mut work = Working::of_written(ws, 0);
     work.thin();
     work.row()
-}
-
-// Whether two rows are equal, free places too.
-fn is_same_row(a: Row, b: Row) -> bool
-    ensures { Decides result (a ≡ b) }
-{
-    if a.count != b.count {
-        return false;
-    }
-    for k in 0..PLACES {
-        if !a.items[k].is_same(b.items[k]) {
-            return false;
-        }
-    }
-    true
 }
 
 // Whether a row holds a folded list: one that is in range and folds to itself.
@@ -97,19 +63,13 @@ pub(crate) fn is_folded(row: &Row) -> bool
     ensures { result ≡ is_folded row.now }
 {
     let list = row.fractions();
-    if !all_in_range(list) {
-        return false;
-    }
-    is_same_row(*row, folded_row(list))
+    all_in_range(list) && *row == folded_row(list)
 }
 
-// Whether a row holds a thinned list: one that is in range and thins to itself.
+// Whether a row holds a thinned list: one that is in range and thins to itself. A closure in place of the row made again would be longer.
 pub(crate) fn is_thinned(row: &Row) -> bool
     ensures { result ≡ is_thinned row.now }
 {
     let list = row.fractions();
-    if !all_in_range(list) {
-        return false;
-    }
-    is_same_row(*row, thinned_row(list))
+    all_in_range(list) && *row == thinned_row(list)
 }

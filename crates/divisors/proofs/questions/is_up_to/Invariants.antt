@@ -1,7 +1,7 @@
-use Rattle.std.proofs.Common.{◌≡◌, drop}
+use Rattle.std.proofs.Common.{◌≡◌, drop, length}
 use Rattle.divisors.specs.Lists.{at_most}
 use Rattle.divisors.proofs.questions.is_up_to.Given as goal
 
--- the rows from i on decide
-abbrev pub invariant-loop-i : goal.invariant-loop-i
-invariant-loop-i l = at_most (drop l.i l.xs) (drop l.i l.ys) ≡ at_most l.xs l.ys
+-- the lists from here on decide
+abbrev pub invariant-loop-x : goal.invariant-loop-x
+invariant-loop-x l = at_most (drop (length l.yielded) l.xs) (drop (length l.yielded) l.ys) ≡ at_most l.xs l.ys

@@ -15,6 +15,6 @@ returns c =
     let r = c.row.result in
     let steps : FoldsTo (over_integers ws) (fractions r) =
     subst (λ (ys : List Fraction). FoldsTo (over_integers ws) ys) (sym c.row.ensures.row)
-    (subst (λ (xs : List Fraction). FoldsTo xs (held c.fold.new.self)) c.fill.ensures.row c.fold.ensures.folds) in
+    (subst (λ (xs : List Fraction). FoldsTo xs (held c.fold.new.self)) c.of_written-work.ensures.row c.fold.ensures.folds) in
     let folds = fold_of_lem ws (fractions r) c.requires.0 steps in
     record { folds = folds; kept = and_from (padded r) (settled (fractions r)) c.row.ensures.padded (fold_settles ws (fractions r) c.requires.0 folds); worked = worked_folds }

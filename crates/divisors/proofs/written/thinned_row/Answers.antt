@@ -9,5 +9,5 @@ pub returns : goal.returns
 returns c =
     let ws = c.args.ws.now in
     let r = c.row.result in
-    let thins = thin_of_lem ws (fractions r) c.requires.0 (c.row.ensures.row ∙ (c.thin.ensures.row ∙ ap thin_of c.fill.ensures.row)) in
+    let thins = thin_of_lem ws (fractions r) c.requires.0 (c.row.ensures.row ∙ (c.thin.ensures.row ∙ ap thin_of c.of_written-work.ensures.row)) in
     record { thins = thins; kept = and_from (padded r) (thinned (fractions r)) c.row.ensures.padded (thin_thins ws (fractions r) c.requires.0 thins) }

@@ -1,19 +1,15 @@
-use Rattle.std.proofs.Common.{◌≡◌, ℕ, ◌+◌, take, set, refl, ap, ◌∙◌, arith, rules}
-use Rattle.divisors.proofs.Places.{down_none, down_all}
+use Rattle.std.proofs.Common.{◌≡◌, ℕ, ◌+◌, ◌-◌, length, get_or, ap, ◌∙◌, arith, rules}
+use Rattle.divisors.specs.Fractions.{none}
+use Rattle.divisors.proofs.Places.{moved_down}
 use Rattle.divisors.proofs.working.Working.insert.Goals as goal
 
-pub returns : goal.returns
-returns c =
-    let n = c.args.self.now.count in
+pub returns-clause-row : goal.returns-clause-row
+returns-clause-row c =
     let old = c.args.self.now.items in
-    let now = c.loop-k.self.items in
-    let all : c.args.at ≡ c.loop-k.k = omega (arith, c.loop-k.invariant.3) in
-    record {
-      row =
-          ap (λ (m : ℕ). take (m + 1) (set now c.args.at c.args.f)) c.loop-k.invariant.0 ∙
-          down_all old now c.args.at n c.args.f (omega arith) (omega arith) (rw all c.loop-k.invariant.1);
-      count = omega arith;
-    }
-
-pub loop-k-init : goal.loop-k-init
-loop-k-init c = (refl, down_none c.args.self.now.items c.args.self.now.count, search rules, c.requires.1)
+    let size : length old ≡ 12 = search rules in
+    let moved = c.copy_within.ensures.by_index in
+    moved_down old c.copy_within.new.self c.args.at c.args.self.now.count c.args.f c.requires.1 (omega arith) c.copy_within.ensures.len
+    (λ j h. moved.1 j none (omega arith))
+    (λ j a b.
+    let e : c.args.at + ((j + 1) - (c.args.at + 1)) ≡ j = omega arith in
+    moved.0 (j + 1) none (omega arith) (omega arith) ∙ ap (λ (i : ℕ). get_or old i none) e)

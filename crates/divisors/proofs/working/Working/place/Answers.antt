@@ -1,39 +1,17 @@
-use Rattle.std.proofs.Common.{◌≡◌, ℕ, ◌+◌, length, take, drop, sym, ap, ◌∙◌, subst, arith, rules}
-use Rattle.std.proofs.lemmas.List.{length-take, length-take-le, get_or-take}
-use Rattle.divisors.specs.declared.fraction.Fraction.{Fraction}
-use Rattle.divisors.specs.Fractions.{lower, none}
+use Rattle.std.proofs.Common.{◌≡◌, ℕ, not, Option, length, sym, ap, ◌∙◌, rules}
+use borrow.Author.Tests.{tests}
+use Rattle.std.specs.Option.{unwrap_or}
+use Rattle.std.proofs.lemmas.Iterator.{YieldsList-from_slice}
+use Rattle.std.proofs.lemmas.Iterator.Search.{position_from_yields_List}
+use Rattle.divisors.specs.Fractions.{lower}
 use Rattle.divisors.specs.Lists.{place_of}
-use Rattle.divisors.proofs.Places.{place_more, place_stop, place_all}
+use Rattle.divisors.proofs.Places.{place_or}
 use Rattle.divisors.proofs.working.Working.place.Goals as goal
 
-pub returns-then-not-is_lower : goal.returns-then-not-is_lower
-returns-then-not-is_lower c =
-    let xs = c.args.self.now.items in
-    let n = c.args.self.now.count in
-    let size : length xs ≡ 12 = search rules in
-    let all = length-take-le n xs (omega arith) in
-    record {
-      place =
-          place_stop c.args.f (take n xs) c.loop-k.k (omega arith)
-          (ap (λ (g : Fraction). lower g c.args.f) (get_or-take n xs c.loop-k.k none c.loop-k-test.true) ∙ sym c.if-not-is_lower.ensures)
-          c.loop-k.invariant;
-      below = omega arith;
-    }
-
-pub loop-k-preserved : goal.loop-k-preserved
-loop-k-preserved c =
-    let xs = c.args.self.now.items in
-    let n = c.args.self.now.count in
-    let size : length xs ≡ 12 = search rules in
-    let all = length-take-le n xs (omega arith) in
-    place_more c.args.f (take n xs) c.loop-k.k (omega arith)
-    (ap (λ (g : Fraction). lower g c.args.f) (get_or-take n xs c.loop-k.k none c.loop-k-test.true) ∙ sym c.if-not-is_lower.ensures)
-    c.loop-k.invariant
-
-pub returns : goal.returns
-returns c =
-    let xs = c.args.self.now.items in
-    let n = c.args.self.now.count in
-    let all = length-take n xs in
-    let k : c.loop-k.k ≡ n = omega arith in
-    record { place = place_all c.args.f (take n xs) n (omega arith) (subst (λ (j : ℕ). place_of c.args.f (take n xs) ≡ j + place_of c.args.f (drop j (take n xs))) k c.loop-k.invariant); below = omega arith }
+pub returns-clause-place : goal.returns-clause-place
+returns-clause-place c =
+    let xs = c.as_slice.result.now in
+    let found = position_from_yields_List (λ x. not (lower x c.args.f)) _ _ c.position.result c.position.ensures.ran (YieldsList-from_slice xs c.iter.ensures.rest) (λ x b q k. search (rules, tests)) in
+    let at : unwrap_or c.position.result c.args.self.now.count ≡ place_of c.args.f xs =
+    ap (λ (n : ℕ). unwrap_or c.position.result n) (sym c.as_slice.ensures.count) ∙ (ap (λ (o : Option ℕ). unwrap_or o (length xs)) found ∙ place_or c.args.f xs) in
+    c.unwrap_or.ensures ∙ (at ∙ ap (place_of c.args.f) c.as_slice.ensures.row)
