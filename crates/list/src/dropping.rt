@@ -8,12 +8,7 @@ use leaf::{Leaf, covers};
 fn any_covers<V: Copy, L: Leaf<V>>(lines: &[L], line: &L) -> bool
     ensures { result ≡ any (λ y. covering L.kind y line.now) lines.now }
 {
-    for other in lines {
-        if covers(other, line) {
-            return true;
-        }
-    }
-    false
+    lines.iter().any(|other| covers(other, line))
 }
 
 // Whether another of the lines than the one at `i`, which is `line`, covers it.
