@@ -1,25 +1,11 @@
--- Where a leaf is placed, and what any_admits has looked at.
-use Rattle.std.proofs.Common.{◌≡◌, ℕ, zero, suc, ◌+◌, ◌<◌, ◌≤◌, Bool, true, false, ◌||◌, List, [], ◌∷◌, length, get_or, drop, sym, ap, ◌∙◌, arith}
-use Rattle.std.proofs.lemmas.List.{drop_more, drop_all}
+-- Where a leaf is placed.
+use Rattle.std.proofs.Common.{◌≡◌, ℕ, zero, suc, ◌<◌, Bool, true, false, ◌||◌, List, [], ◌∷◌, length, get_or, ap, ◌∙◌, arith}
 use Rattle.std.proofs.lemmas.List.Folds.{list_any_at}
 use Rattle.std.proofs.lemmas.Bool.{cond-false, cond-true}
 use Rattle.std.specs.List.{insert as put_at}
 use Rattle.list.specs.Lists.{any, inserted}
 
 module _ {X : Type 0} where
-  module _ (p : X → Bool) (xs : List X) (i : ℕ) (x : X) (h : i < length xs) (e : x ≡ get_or xs i x) (inv : any p (drop i xs) ≡ any p xs) where
-    any_step : (p x || any p (drop (i + 1) xs)) ≡ any p xs
-    any_step = ap (λ y. p y || any p (drop (i + 1) xs)) e ∙ sym (ap (any p) (drop_more xs i x h)) ∙ inv
-
-    pub any_no : false ≡ p x → any p (drop (i + 1) xs) ≡ any p xs
-    any_no no-it = ap (λ b. b || any p (drop (i + 1) xs)) no-it ∙ any_step
-
-    pub any_yes : true ≡ p x → true ≡ any p xs
-    any_yes it = ap (λ b. b || any p (drop (i + 1) xs)) it ∙ any_step
-
-  pub any_end : (p : X → Bool) (xs : List X) (i : ℕ) → length xs ≤ i → any p (drop i xs) ≡ any p xs → false ≡ any p xs
-  any_end p xs i h inv = sym (ap (any p) (drop_all i xs h)) ∙ inv
-
   module _ (up : X → X → Bool) (x : X) where
     -- where all are later, it stands first
     none : (xs : List X) → ((k : ℕ) → k < length xs → up (get_or xs k x) x ≡ false) → any (λ z. up z x) xs ≡ false

@@ -136,6 +136,7 @@ impl<'a, V: Copy, L: Leaf<V>> Leaves<'a, V, L> {
     }
 
     // Line n, counted from 0, into the caller's place; false, and the place as it was, where n is at or past the count. A reading.
+    // By the project's rule a place and a flag, not an Option.
     pub fn line(&mut self, n: usize, place: &mut L) -> bool
         ensures table { SameTable self.old self.new }
         ensures answer { result ≡ nat_lt n (length (held_of self.new)) }

@@ -63,6 +63,7 @@ impl<'a, V: Copy, L: Leaf<V>> Leaves<'a, V, L> {
     {
         answer.start = first_leaf::<V, L>(bytes)?;
         let mut place = L::blank();
+        // Where a leaf ends is known once it is read, so no iterator goes over them.
         while answer.start < bytes.len() {
             answer.start = self.take_leaf(bytes, answer.start, &mut place)?;
             answer.accepted += 1;

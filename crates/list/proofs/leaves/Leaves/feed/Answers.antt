@@ -8,16 +8,9 @@ loop-answer-preserved g c =
     let e = c.in_ok-answer-2.ensures in
     feeding_more g.L.Leaf.kind g.met.L.Leaf.lawfully c.args.bytes.now c.args.self.now l.self l.answer.start l.answer.accepted l.invariant c.loop-answer-test.true c.take_leaf.new.self e.table e.flag _ e.fills
 
-pub returns-in_err-answer-2-clause-answer : goal.returns-in_err-answer-2-clause-answer
-returns-in_err-answer-2-clause-answer g c =
+pub returns-in_err-answer-2 : goal.returns-in_err-answer-2
+returns-in_err-answer-2 g c =
     let l = c.loop-answer in
     let e = c.in_err-answer-2.ensures in
     let f = feeding_stop g.L.Leaf.kind g.met.L.Leaf.lawfully c.args.bytes.now c.args.self.now l.self l.answer.start l.answer.accepted l.invariant c.loop-answer-test.true c.take_leaf.new.self e.table e.flag _ e.fills in
-    search (rules, f)
-
-pub returns-in_err-answer-2-clause-held : goal.returns-in_err-answer-2-clause-held
-returns-in_err-answer-2-clause-held g c =
-    let l = c.loop-answer in
-    let e = c.in_err-answer-2.ensures in
-    let f = feeding_stop g.L.Leaf.kind g.met.L.Leaf.lawfully c.args.bytes.now c.args.self.now l.self l.answer.start l.answer.accepted l.invariant c.loop-answer-test.true c.take_leaf.new.self e.table e.flag _ e.fills in
-    f.held
+    record { table = f.table; answer = search (rules, f); held = f.held; flag = f.flag }
