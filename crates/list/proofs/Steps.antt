@@ -6,7 +6,7 @@ use Rattle.list.specs.Lists.{Placed, inserted}
 use Rattle.list.specs.Sheets.{is_full}
 use Rattle.list.specs.Runs.Call.{insert}
 use Rattle.list.specs.Runs.{Call, after, reading, run, Allowed, Promised}
-use Rattle.list.specs.Held.{held_of, places_of, Unsettles, Settled, Sound, Leads, LeadsOn}
+use Rattle.list.specs.Held.{held_of, places_of, lines_of, Unsettles, Settled, Sound, Leads, LeadsOn}
 use Rattle.list.specs.declared.leaves.Leaves.{Leaves}
 use Rattle.list.proofs.Core.{Up}
 use Rattle.list.proofs.Reading.{pairs_map, append_all}
@@ -50,7 +50,7 @@ module _ {V L : Type 0} (k : Kind V L) (w : Laws k) where
     leads_next u p cs d = record { allowed = append_all (Allowed k) cs (c ∷ []) d.allowed (p, tt); held = led cs d.held; settled = keeps_settled u d.settled }
 
   -- readings
-  module _ (l l' : Leaves V L) (same : places_of l' ≡ places_of l) (read : held_of l' ≡ cond l.canonical (held_of l) (reading k (held_of l))) where
+  module _ (l l' : Leaves V L) (same : places_of l' ≡ places_of l) (read : held_of l' ≡ lines_of k l) where
     lines_read : Settled k l → held_of l' ≡ reading k (held_of l)
     lines_read s = was l.canonical read s where
       was : (b : Bool) → held_of l' ≡ cond b (held_of l) (reading k (held_of l)) → (b ≡ true → reading k (held_of l) ≡ held_of l) → held_of l' ≡ reading k (held_of l)

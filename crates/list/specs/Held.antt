@@ -1,5 +1,5 @@
 -- What the fields of a list say.
-use Rattle.std.specs.Prelude.{◌≡◌, ℕ, true, List, [], ◌∷◌, ◌++◌, length, take, Some, None, Ok, Err, Option, Result}
+use Rattle.std.specs.Prelude.{◌≡◌, ℕ, true, cond, List, [], ◌∷◌, ◌++◌, length, take, Some, None, Ok, Err, Option, Result}
 use Rattle.leaf.specs.declared.fault.Fault.{Fault}
 use Rattle.leaf.specs.Faults.{Refused, shown}
 use Rattle.leaf.specs.Kind.{Kind, Lawful, before}
@@ -41,6 +41,10 @@ module _ {V L : Type 0} where
   Unsettles l l' = l'.canonical ≡ true → (l.canonical ≡ true) × (held_of l' ≡ held_of l)
 
   module _ (k : Kind V L) where
+    -- the lines: what is held where nothing came since the last reading, else its reading
+    abbrev pub lines_of : Leaves V L → List L
+    lines_of l = cond l.canonical (held_of l) (reading k (held_of l))
+
     -- where the flag is set, a reading changes nothing
     abbrev pub Settled : Leaves V L → Type 0
     Settled l = l.canonical ≡ true → reading k (held_of l) ≡ held_of l

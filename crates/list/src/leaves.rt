@@ -33,7 +33,7 @@ fn read_held<V: Copy, L: Leaf<V>>(held: &mut [L]) -> usize
 }
 
 impl<'a, V: Copy, L: Leaf<V>> Leaves<'a, V, L> {
-    ghost use Rattle.list.specs.Held.{Leads, LeadsOn, SameTable, Settled, Sound, Unsettles, held_of, places_of, refused_with};
+    ghost use Rattle.list.specs.Held.{Leads, LeadsOn, SameTable, Settled, Sound, Unsettles, held_of, lines_of, places_of, refused_with};
 
     // A list that holds no leaf, whatever the table has in it.
     pub fn open(table: &'a mut [L]) -> Leaves<'a, V, L>
@@ -109,7 +109,7 @@ impl<'a, V: Copy, L: Leaf<V>> Leaves<'a, V, L> {
     // A reading, unless nothing came since the last.
     fn settle(&mut self)
         ensures table { SameTable self.old self.new }
-        ensures held { held_of self.new ≡ (if self.old.canonical then held_of self.old else reading L.kind (held_of self.old)) }
+        ensures held { held_of self.new ≡ lines_of L.kind self.old }
         ensures read { self.new.canonical ≡ true }
     {
         if !self.canonical {
@@ -124,7 +124,7 @@ impl<'a, V: Copy, L: Leaf<V>> Leaves<'a, V, L> {
         ensures answer { result ≡ length (held_of self.new) }
         ensures within { result ≤ length self.new.table.now }
         ensures shown { take result self.new.table.now ≡ held_of self.new }
-        ensures held { held_of self.new ≡ (if self.old.canonical then held_of self.old else reading L.kind (held_of self.old)) }
+        ensures held { held_of self.new ≡ lines_of L.kind self.old }
         ensures lines { Settled L.kind self.old → held_of self.new ≡ reading L.kind (held_of self.old) }
         ensures read { self.new.canonical ≡ true }
         ensures sound { Sound L.kind self.old → Sound L.kind self.new }
@@ -141,7 +141,7 @@ impl<'a, V: Copy, L: Leaf<V>> Leaves<'a, V, L> {
         ensures table { SameTable self.old self.new }
         ensures answer { result ≡ nat_lt n (length (held_of self.new)) }
         ensures filled { place.new ≡ slice_index_or (held_of self.new) n place.old }
-        ensures held { held_of self.new ≡ (if self.old.canonical then held_of self.old else reading L.kind (held_of self.old)) }
+        ensures held { held_of self.new ≡ lines_of L.kind self.old }
         ensures lines { Settled L.kind self.old → held_of self.new ≡ reading L.kind (held_of self.old) }
         ensures read { self.new.canonical ≡ true }
         ensures sound { Sound L.kind self.old → Sound L.kind self.new }
