@@ -1,13 +1,13 @@
 -- The loop over the leaves of a sheet.
-use Rattle.std.proofs.Common.{◌≡◌, ℕ, zero, suc, ◌+◌, ◌-◌, ◌<◌, ◌≤◌, cond, ltb, List, length, Some, None, Ok, Err, Option, sym, refl, ap, ◌∙◌, arith}
+use Rattle.std.proofs.Common.{◌≡◌, ℕ, zero, suc, ◌+◌, ◌-◌, ◌<◌, ◌≤◌, cond, ltb, List, length, Some, None, Ok, Err, Option, sym, refl, ap, ◌∙◌, subst, arith}
 use Rattle.std.proofs.lemmas.Bool.{cond-true, cond-false, lt-ltb, le-ltb}
 use Rattle.leaf.specs.declared.fault.Fault.{Fault}
 use Rattle.leaf.specs.Faults.{Refused, Answer, found, refused, Fills}
 use Rattle.leaf.specs.Kind.{Kind, Laws, before}
 use Rattle.list.specs.Lists.{inserted}
-use Rattle.list.specs.Sheets.{Outcome, ends, after_leaf, judged, accepted_at, put_in, fed}
+use Rattle.list.specs.Sheets.{Outcome, ends, after_leaf, judged, accepted_at, put_in, fed, sheet_outcome}
 use Rattle.list.specs.declared.sheets.SheetAnswer.{SheetAnswer as Told}
-use Rattle.list.specs.Held.{held_of, places_of, Unsettles, Tells}
+use Rattle.list.specs.Held.{held_of, places_of, stopped, SameTable, Unsettles, Tells}
 use Rattle.list.specs.declared.leaves.Leaves.{Leaves}
 use Rattle.list.proofs.Pouring.{accepted_read}
 
@@ -57,96 +57,81 @@ pub record Extends {L : Type 0} (a : ℕ) (o p : Outcome L) : Type 0 where
 
 -- what the loop answers, the list being l₀ at first and l at last
 pub record Fed {V L : Type 0} (o : Outcome L) (l₀ l : Leaves V L) (a : Told) : Type 0 where
-  pub table : l.table.ghost_name ≡ l₀.table.ghost_name
-  pub places : places_of l ≡ places_of l₀
+  pub table : SameTable l₀ l
   pub answer : Tells a o
   pub held : held_of l ≡ o.held
   pub flag : Unsettles l₀ l
 
-module _ {V L : Type 0} (k : Kind V L) where
-  abbrev pub whole : List ℕ → ℕ → ℕ → List L → Outcome L
-  whole bytes n at h = fed k n bytes (length bytes) at h
+module _ {L : Type 0} (a : ℕ) (o : Outcome L) where
+  extends_on : (p q : Outcome L) (x : L) → Extends a o p → p ≡ after_leaf x q → Extends (a + 1) o q
+  extends_on p q x z e = record {
+    taken = omega (arith, z.taken, ap (λ o. length o.taken) e);
+    held = z.held ∙ ap (λ o. o.held) e;
+    start = z.start ∙ ap (λ o. o.start) e;
+    stop = z.stop ∙ ap (λ o. o.stop) e;
+  }
+
+module _ {V L : Type 0} where
+  same_as : (l l' l'' : Leaves V L) → SameTable l l' → SameTable l' l'' → SameTable l l''
+  same_as l l' l'' s t = record { lent = t.lent ∙ s.lent; places = t.places ∙ s.places }
+
+  -- where nothing is left to come, the loop has its answer
+  fed_told : (l₀ l : Leaves V L) (at a : ℕ) (f : Option Fault) (o : Outcome L) (h : List L) → SameTable l₀ l → Unsettles l₀ l → held_of l ≡ h → Extends a o (ends at h (stopped f)) → Fed o l₀ l (record { accepted = a; start = at; fault = f })
+  fed_told l₀ l at a f o h t u e x = record {
+    table = t;
+    answer = record { accepted = omega (arith, x.taken); start = sym x.start; fault = sym x.stop };
+    held = e ∙ sym x.held;
+    flag = u;
+  }
+
+module _ {V L : Type 0} (k : Kind V L) (w : Laws k) (bytes : List ℕ) (l₀ : Leaves V L) where
+  abbrev left : ℕ → List L → Outcome L
+  left at h = fed k (places_of l₀) bytes (length bytes) at h
 
   -- the list l₀ has taken a leaves, is now l, and goes on at `at`
-  pub record Feeding (bytes : List ℕ) (l₀ l : Leaves V L) (at a : ℕ) : Type 0 where
-    pub table : l.table.ghost_name ≡ l₀.table.ghost_name
-    pub places : places_of l ≡ places_of l₀
+  pub record Feeding (l : Leaves V L) (at a : ℕ) : Type 0 where
+    pub table : SameTable l₀ l
     pub flag : Unsettles l₀ l
     pub fewer : a < at
-    pub sofar : Extends a (whole bytes (places_of l₀) 1 (held_of l₀)) (whole bytes (places_of l₀) at (held_of l))
+    pub sofar : Extends a (sheet_outcome k (places_of l₀) bytes (held_of l₀)) (left at (held_of l))
 
-  pub feeding_none : (bytes : List ℕ) (l : Leaves V L) → Feeding bytes l l 1 0
-  feeding_none bytes l = record { table = refl; places = refl; flag = λ s. (s, refl); fewer = omega arith; sofar = record { taken = omega arith; held = refl; start = refl; stop = refl } }
+  module _ (l : Leaves V L) (at a : ℕ) (s : Feeding l at a) where
+    abbrev o : Outcome L
+    o = sheet_outcome k (places_of l₀) bytes (held_of l₀)
 
-  module _ (w : Laws k) (bytes : List ℕ) (l₀ l l' : Leaves V L) (at a : ℕ) (s : Feeding bytes l₀ l at a) (m : at < length bytes)
-      (t : l'.table.ghost_name ≡ l.table.ghost_name) (p : places_of l' ≡ places_of l) (u : Unsettles l l') where
-    abbrev one : Answer L
-    one = accepted_at k (places_of l) bytes at (held_of l)
+    module _ (m : at < length bytes) (l' : Leaves V L) (t : SameTable l l') (u : Unsettles l l') where
+      abbrev one : Answer L
+      one = accepted_at k (places_of l) bytes at (held_of l)
 
-    flags : Unsettles l₀ l'
-    flags c = let q = u c in let r = s.flag q.0 in (r.0, q.1 ∙ r.1)
+      flags : Unsettles l₀ l'
+      flags c = let q = u c in let r = s.flag q.0 in (r.0, q.1 ∙ r.1)
 
-    here : accepted_at k (places_of l₀) bytes at (held_of l) ≡ one
-    here = ap (λ (n : ℕ). accepted_at k n bytes at (held_of l)) (sym s.places)
+      here : accepted_at k (places_of l₀) bytes at (held_of l) ≡ one
+      here = ap (λ (n : ℕ). accepted_at k n bytes at (held_of l)) (sym s.table.places)
 
-    module _ (e : ℕ) where
-      pub feeding_more : Fills (put_in (before k) (held_of l) one) (held_of l) (held_of l') (Ok e) → Feeding bytes l₀ l' e (a + 1)
-      feeding_more f = at_one one refl f
+      pub feeding_more : (e : ℕ) → Fills (put_in (before k) (held_of l) one) (held_of l) (held_of l') (Ok e) → Feeding l' e (a + 1)
+      feeding_more e f = at_one one refl f
         where
-          at_one : (b : Answer L) → one ≡ b → Fills (put_in (before k) (held_of l) b) (held_of l) (held_of l') (Ok e) → Feeding bytes l₀ l' e (a + 1)
+          at_one : (b : Answer L) → one ≡ b → Fills (put_in (before k) (held_of l) b) (held_of l) (held_of l') (Ok e) → Feeding l' e (a + 1)
           at_one (refused r) q g = absurd g
           at_one (found x d) q g =
               let de : d ≡ e = cc in
               let q' : accepted_at k (places_of l₀) bytes at (held_of l) ≡ found x e = here ∙ q ∙ ap (found x) de in
               let b = accepted_read k w (places_of l₀) bytes at (held_of l) x e q' in
               let step = fed_leaf k (places_of l₀) bytes w (length bytes) at (held_of l) x e (omega arith) m q' in
-              let put : whole bytes (places_of l₀) e (inserted (before k) x (held_of l)) ≡ whole bytes (places_of l₀) e (held_of l') = ap (whole bytes (places_of l₀) e) (sym g.1) in
-              let z = s.sofar in
               record {
-                table = t ∙ s.table;
-                places = p ∙ s.places;
+                table = same_as l₀ l l' s.table t;
                 flag = flags;
                 fewer = omega (arith, s.fewer);
-                sofar = record {
-                  taken = omega (arith, z.taken, ap (λ o. length o.taken) step, ap (λ o. length o.taken) put);
-                  held = z.held ∙ ap (λ o. o.held) step ∙ ap (λ o. o.held) put;
-                  start = z.start ∙ ap (λ o. o.start) step ∙ ap (λ o. o.start) put;
-                  stop = z.stop ∙ ap (λ o. o.stop) step ∙ ap (λ o. o.stop) put;
-                };
+                sofar = extends_on a o (left at (held_of l)) (left e (held_of l')) x s.sofar (step ∙ ap (λ h. after_leaf x (left e h)) (sym g.1));
               }
 
-    pub feeding_stop : (f : Fault) → Fills (put_in (before k) (held_of l) one) (held_of l) (held_of l') (Err f) → Fed (whole bytes (places_of l₀) 1 (held_of l₀)) l₀ l' (record { accepted = a; start = at; fault = Some f })
-    feeding_stop f g = at_one one refl g
-      where
-        at_one : (b : Answer L) → one ≡ b → Fills (put_in (before k) (held_of l) b) (held_of l) (held_of l') (Err f) → Fed (whole bytes (places_of l₀) 1 (held_of l₀)) l₀ l' (record { accepted = a; start = at; fault = Some f })
-        at_one (found x d) q g = let z : ◌≡◌ {A = ℕ} 0 1 = cc in absurd (omega arith)
-        at_one (refused r) q g =
-            let step = fed_stop k (places_of l₀) bytes (length bytes) at (held_of l) r (omega arith) m (here ∙ q) in
-            let z = s.sofar in
-            record {
-              table = t ∙ s.table;
-              places = p ∙ s.places;
-              answer = record {
-                accepted = omega (arith, z.taken, ap (λ o. length o.taken) step);
-                start = sym (z.start ∙ ap (λ o. o.start) step);
-                fault = ap {B = Option Refused} Some g.0 ∙ sym (z.stop ∙ ap (λ o. o.stop) step);
-              };
-              held = g.1 ∙ sym (z.held ∙ ap (λ o. o.held) step);
-              flag = flags;
-            }
-
-  pub feeding_all : (bytes : List ℕ) (l₀ l : Leaves V L) (at a : ℕ) → Feeding bytes l₀ l at a → length bytes ≤ at → Fed (whole bytes (places_of l₀) 1 (held_of l₀)) l₀ l (record { accepted = a; start = at; fault = None })
-  feeding_all bytes l₀ l at a s m =
-      let step = fed_end k (places_of l₀) bytes (length bytes) at (held_of l) m in
-      let z = s.sofar in
-      record {
-        table = s.table;
-        places = s.places;
-        answer = record {
-          accepted = omega (arith, z.taken, ap (λ o. length o.taken) step);
-          start = sym (z.start ∙ ap (λ o. o.start) step);
-          fault = sym (z.stop ∙ ap (λ o. o.stop) step);
-        };
-        held = sym (z.held ∙ ap (λ o. o.held) step);
-        flag = s.flag;
-      }
+      pub feeding_stop : (f : Fault) → Fills (put_in (before k) (held_of l) one) (held_of l) (held_of l') (Err f) → Fed o l₀ l' (record { accepted = a; start = at; fault = Some f })
+      feeding_stop f g = at_one one refl g
+        where
+          at_one : (b : Answer L) → one ≡ b → Fills (put_in (before k) (held_of l) b) (held_of l) (held_of l') (Err f) → Fed o l₀ l' (record { accepted = a; start = at; fault = Some f })
+          at_one (found x d) q g = let z : ◌≡◌ {A = ℕ} 0 1 = cc in absurd (omega arith)
+          at_one (refused r) q g =
+              let step = fed_stop k (places_of l₀) bytes (length bytes) at (held_of l) r (omega arith) m (here ∙ q) in
+              fed_told l₀ l' at a (Some f) o (held_of l) (same_as l₀ l l' s.table t) flags g.1
+              (subst (Extends a o) (step ∙ ap (λ r. ends at (held_of l) (Some r)) (sym g.0)) s.sofar)

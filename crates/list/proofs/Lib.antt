@@ -14,7 +14,5 @@ pub mod OverKinds
 pub mod Pouring
 pub mod Relations
 pub mod Running
-pub mod Calls
 pub mod Steps
 pub mod Feeds
-pub mod Firsts

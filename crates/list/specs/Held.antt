@@ -1,5 +1,5 @@
 -- What the fields of a list say.
-use Rattle.std.specs.Prelude.{◌≡◌, ℕ, true, List, length, take, Some, None, Ok, Err, Option, Result}
+use Rattle.std.specs.Prelude.{◌≡◌, ℕ, true, cond, List, [], ◌∷◌, ◌++◌, length, take, Some, None, Ok, Err, Option, Result}
 use Rattle.leaf.specs.declared.fault.Fault.{Fault}
 use Rattle.leaf.specs.Faults.{Refused, shown}
 use Rattle.leaf.specs.Kind.{Kind, Lawful, before}
@@ -31,11 +31,20 @@ module _ {V L : Type 0} where
   abbrev pub places_of : Leaves V L → ℕ
   places_of l = length l.table.now
 
+  -- the same places of the caller, and as many of them
+  pub record SameTable (l l' : Leaves V L) : Type 0 where
+    pub lent : l'.table.ghost_name ≡ l.table.ghost_name
+    pub places : places_of l' ≡ places_of l
+
   -- where the flag is set at the end, it was set before and the same leaves are held
   abbrev pub Unsettles : Leaves V L → Leaves V L → Type 0
   Unsettles l l' = l'.canonical ≡ true → (l.canonical ≡ true) × (held_of l' ≡ held_of l)
 
   module _ (k : Kind V L) where
+    -- the lines: what is held where nothing came since the last reading, else its reading
+    abbrev pub lines_of : Leaves V L → List L
+    lines_of l = cond l.canonical (held_of l) (reading k (held_of l))
+
     -- where the flag is set, a reading changes nothing
     abbrev pub Settled : Leaves V L → Type 0
     Settled l = l.canonical ≡ true → reading k (held_of l) ≡ held_of l
@@ -51,3 +60,7 @@ module _ {V L : Type 0} where
       pub allowed : All (Allowed k) cs
       pub held : held_of l ≡ run k (places_of l) cs
       pub settled : Settled l
+
+    -- a run that leads to l leads with one more call to l'
+    abbrev pub LeadsOn : Call V L → Leaves V L → Leaves V L → Type 0
+    LeadsOn c l l' = (cs : List (Call V L)) → Leads cs l → Leads (cs ++ c ∷ []) l'

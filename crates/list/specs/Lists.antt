@@ -1,5 +1,6 @@
 -- Lists: what holds of each element, of one, of each two in order; an element put into its place, neighbours joined, what another covers dropped.
 use Rattle.std.specs.Prelude.{◌≡◌, Bool, true, false, cond, ◌||◌, ◌⊎◌, List, [], ◌∷◌, ◌++◌}
+use Rattle.std.specs.List.{list_any}
 
 module _ {X : Type 0} where
   abbrev pub All : (X → Type 0) → List X → Type 0
@@ -19,8 +20,7 @@ module _ {X : Type 0} where
   Pairs R (x ∷ xs) = All (R x) xs × Pairs R xs
 
   abbrev pub any : (X → Bool) → List X → Bool
-  any p [] = false
-  any p (x ∷ xs) = p x || any p xs
+  any = list_any
 
   -- behind the last that is no later, which in a list in order is after its equals
   abbrev pub inserted : (X → X → Bool) → X → List X → List X

@@ -8,12 +8,7 @@ use leaf::{Leaf, covers};
 fn any_covers<V: Copy, L: Leaf<V>>(lines: &[L], line: &L) -> bool
     ensures { result ≡ any (λ y. covering L.kind y line.now) lines.now }
 {
-    for other in lines {
-        if covers(other, line) {
-            return true;
-        }
-    }
-    false
+    lines.iter().any(|other| covers(other, line))
 }
 
 // Whether another of the lines than the one at `i`, which is `line`, covers it.
@@ -21,26 +16,20 @@ fn is_covered<V: Copy, L: Leaf<V>>(lines: &[L], i: usize, line: &L) -> bool
     requires { i < length lines.now }
     ensures { result ≡ (any (λ y. covering L.kind y line.now) (take i lines.now) || any (λ y. covering L.kind y line.now) (drop (i + 1) lines.now)) }
 {
-    if any_covers(&lines[0..i], line) {
-        return true;
-    }
-    any_covers(&lines[i + 1..], line)
+    any_covers(&lines[..i], line) || any_covers(&lines[i + 1..], line)
 }
 
-// Drops each of the first `held` records that another of them covers, and answers how many are left. Those dropped stand
-// past the kept ones until the end, so that each record is held against all the others.
-pub(crate) fn drop_covered<V: Copy, L: Leaf<V>>(table: &mut [L], held: usize) -> usize
-    requires { held ≤ length table.old }
-    ensures fewer { result ≤ held }
-    ensures lines { take result table.new ≡ kept (covering L.kind) (take held table.old) }
-    ensures rest { drop held table.new ≡ drop held table.old }
+// Drops each of the lines that another of them covers, and answers how many are left in front. Those dropped stand past the
+// kept ones until the end, so that each is held against all the others: one index reads and one writes.
+pub(crate) fn drop_covered<V: Copy, L: Leaf<V>>(lines: &mut [L]) -> usize
+    ensures fewer { result ≤ length lines.old }
+    ensures lines { take result lines.new ≡ kept (covering L.kind) lines.old }
 {
     let mut w = 0;
-    for r in 0..held {
-        let line = table[r];
-        if !is_covered(&table[0..held], r, &line) {
-            table[r] = table[w];
-            table[w] = line;
+    for r in 0..lines.len() {
+        let line = lines[r];
+        if !is_covered(lines, r, &line) {
+            lines.swap(r, w);
             w += 1;
         }
     }

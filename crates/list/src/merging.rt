@@ -1,29 +1,28 @@
-ghost use Rattle.std.specs.Prelude.{◌≡◌, ◌≤◌, length, take, drop};
+ghost use Rattle.std.specs.Prelude.{◌≡◌, ◌≤◌, length, take};
 ghost use Rattle.leaf.specs.Kind.{touches};
 ghost use Rattle.leaf.specs.Kind.{join as joining};
 ghost use Rattle.list.specs.Lists.{joined};
 
 use leaf::{Leaf, adjoins, join};
 
-// Joins each of the first `held` records to the one before it, as joined so far, and answers how many are left.
-pub(crate) fn merge_held<V: Copy, L: Leaf<V>>(table: &mut [L], held: usize) -> usize
-    requires { held ≤ length table.old }
-    ensures fewer { result ≤ held }
-    ensures lines { take result table.new ≡ joined (touches L.kind) (joining L.kind) (take held table.old) }
-    ensures rest { drop held table.new ≡ drop held table.old }
+// Joins each of the records to the one before it, as joined so far, and answers how many are left in front.
+// One index reads and one writes, since the records are compacted in their own places.
+pub(crate) fn merge_held<V: Copy, L: Leaf<V>>(held: &mut [L]) -> usize
+    ensures fewer { result ≤ length held.old }
+    ensures lines { take result held.new ≡ joined (touches L.kind) (joining L.kind) held.old }
 {
-    if held == 0 {
+    if held.is_empty() {
         return 0;
     }
     let mut w = 0;
-    for r in 1..held {
-        let last = table[w];
-        let next = table[r];
+    for r in 1..held.len() {
+        let last = held[w];
+        let next = held[r];
         if adjoins(&last, &next) {
-            table[w] = join(&last, &next);
+            held[w] = join(&last, &next);
         } else {
             w += 1;
-            table[w] = next;
+            held[w] = next;
         }
     }
     w + 1

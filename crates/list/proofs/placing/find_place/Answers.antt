@@ -1,22 +1,15 @@
-use Rattle.std.proofs.Common.{arith}
+use Rattle.std.proofs.Common.{rules, ◌∙◌, ℕ, ap, sym, add-one}
 use Rattle.leaf.specs.Kind.{before}
-use Rattle.list.proofs.Searches.{later_none, later_more, put_behind, put_front}
+use Rattle.std.specs.List.{insert as put_at}
+use Rattle.list.proofs.Searches.{put_behind, put_first}
 use Rattle.list.proofs.placing.find_place.Goals as goal
 
-pub loop-at-init : goal.loop-at-init
-loop-at-init g c = (omega arith, later_none (before g.L.Leaf.kind) c.args.leaf.now c.args.held.now)
+pub returns-in-Some-clause-place : goal.returns-in-Some-clause-place
+returns-in-Some-clause-place g c =
+    let x = c.args.leaf.now in
+    let xs = c.args.held.now in
+    let i = c.in-Some.last in
+    put_behind (before g.L.Leaf.kind) x xs i (search rules) (search rules) (λ k l m. search rules) ∙ ap (λ (j : ℕ). put_at xs j x) (sym (add-one i))
 
-pub loop-at-preserved : goal.loop-at-preserved
-loop-at-preserved g c = (omega arith, later_more (before g.L.Leaf.kind) c.args.leaf.now c.args.held.now _ _ c.loop-at-test.true c.loop-at.invariant.0 c.index-held-at.is c.if-goes_behind.ensures c.loop-at.invariant.1)
-
-pub returns-then-goes_behind : goal.returns-then-goes_behind
-returns-then-goes_behind g c = record {
-  within = c.loop-at.invariant.0;
-  place = put_behind (before g.L.Leaf.kind) c.args.leaf.now c.args.held.now _ _ c.loop-at-test.true c.loop-at.invariant.0 c.index-held-at.is c.if-goes_behind.ensures c.loop-at.invariant.1;
-}
-
-pub returns : goal.returns
-returns g c = record {
-  within = omega arith;
-  place = put_front (before g.L.Leaf.kind) c.args.leaf.now c.args.held.now _ c.loop-at-test.false c.loop-at.invariant.1;
-}
+pub returns-in-None-clause-place : goal.returns-in-None-clause-place
+returns-in-None-clause-place g c = put_first (before g.L.Leaf.kind) c.args.leaf.now c.args.held.now (λ k l. search rules)

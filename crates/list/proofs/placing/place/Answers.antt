@@ -1,7 +1,10 @@
-use Rattle.std.proofs.Common.{arith}
-use Rattle.leaf.specs.Kind.{before}
-use Rattle.list.proofs.Searches.{placed}
+use Rattle.std.proofs.Common.{◌-◌, ◌∙◌, length, sym, arith}
+use Rattle.std.proofs.lemmas.List.{length-take-le}
+use Rattle.list.proofs.Shifts.{shifted}
 use Rattle.list.proofs.placing.place.Goals as goal
 
 pub returns : goal.returns
-returns g c = placed (before g.L.Leaf.kind) c.args.leaf c.args.table.now c.shift_in.new.table c.args.held _ c.find_place-at.result (omega arith) c.find_place-at.ensures.place c.shift_in.ensures
+returns g c =
+    let t = c.args.table.now in
+    let n = length t - 1 in
+    rw c.copy_within.ensures.after (shifted t c.find_place-at.result n c.args.leaf (omega (arith, length-take-le n t (omega arith))) (omega arith) ∙ sym c.find_place-at.ensures.place)
