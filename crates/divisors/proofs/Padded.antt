@@ -1,7 +1,7 @@
 -- A padded row is its fractions.
-use Rattle.std.proofs.Common.{◌≡◌, ◌≤◌, Bool, true, false, ◌&&◌, eqb, leb, List, [], ◌∷◌, ◌++◌, length, drop, Decides, sym, refl, ap, ◌∙◌, subst, ⊎_elim, arith, length-drop}
-use Rattle.std.proofs.lemmas.List.{length-take-le, take-append-drop}
-use Rattle.std.proofs.lemmas.Bool.{and_parts, both_ways, cases_Bool, leb-true, eqb-true}
+use Rattle.std.proofs.Common.{◌≡◌, ◌+◌, ◌<◌, ◌≤◌, Bool, true, false, ◌&&◌, eqb, leb, List, [], ◌∷◌, ◌++◌, length, drop, set, Decides, sym, refl, ap, ◌∙◌, subst, ⊎_elim, arith, length-drop}
+use Rattle.std.proofs.lemmas.List.{length-set, length-take-le, take-append-drop}
+use Rattle.std.proofs.lemmas.Bool.{and_from, and_parts, both_ways, cases_Bool, eq-eqb, eqb-true, le-leb, leb-true}
 use Rattle.divisors.specs.declared.fraction.Fraction.{Fraction}
 use Rattle.divisors.specs.declared.row.Row.{Row}
 use Rattle.divisors.specs.Dividing.{thinned}
@@ -11,6 +11,7 @@ use Rattle.divisors.specs.Rows.{fractions, is_folded, is_thinned, padded}
 use Rattle.divisors.specs.Settled.{settled}
 use Rattle.divisors.specs.Written.{FoldOf, ThinOf, are_in_range}
 use Rattle.divisors.proofs.Again.{barred_same, reduced_in_range, required_same}
+use Rattle.divisors.proofs.Fills.{blank_more}
 use Rattle.divisors.proofs.Settles.{settled_parts}
 use Rattle.divisors.proofs.Thins.{thinned_parts}
 use Rattle.divisors.proofs.Tidies.{same_eq}
@@ -83,3 +84,16 @@ not_thinned r e =
     ⊎_elim
     (λ t. absurd (both_ways (are_in_range (fractions r)) e (reduced_in_range (fractions r) (thinned_parts (fractions r) (and_parts (padded r) (thinned (fractions r)) t).1).reduced)))
     sym (cases_Bool (is_thinned r))
+
+-- a fraction at the end of a padded row leaves it padded
+pub padded_more :
+    (r : Row) (f : Fraction) → r.count < 6 → padded r ≡ true → padded record { items = set r.items r.count f; count = r.count + 1 } ≡ true
+padded_more r f n h =
+    let a = and_parts (leb r.count 6) (eqb (length r.items) 6 && every (λ f. same f none) (drop r.count r.items)) h in
+    let b = and_parts (eqb (length r.items) 6) (every (λ f. same f none) (drop r.count r.items)) a.1 in
+    let size : length r.items ≡ 6 = eqb-true (length r.items) 6 b.0 in
+    let l : leb (r.count + 1) 6 ≡ true = le-leb (r.count + 1) 6 (omega arith) in
+    let e : eqb (length (set r.items r.count f)) 6 ≡ true = eq-eqb (length (set r.items r.count f)) 6 (length-set r.items r.count f ∙ size) in
+    let m : every (λ g. same g none) (drop (r.count + 1) (set r.items r.count f)) ≡ true = blank_more r.items r.count f (omega arith) b.1 in
+    and_from (leb (r.count + 1) 6) (eqb (length (set r.items r.count f)) 6 && every (λ g. same g none) (drop (r.count + 1) (set r.items r.count f))) l
+    (and_from (eqb (length (set r.items r.count f)) 6) (every (λ g. same g none) (drop (r.count + 1) (set r.items r.count f))) e m)

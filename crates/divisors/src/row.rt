@@ -3,12 +3,15 @@ ghost use Rattle.divisors.specs.Fractions.{is_multiple};
 ghost use Rattle.divisors.specs.Laws.{BarredLaws, OrderLaws, RequiredLaws};
 ghost use Rattle.divisors.specs.Lists.{at_most, every, sole_of, some};
 ghost use Rattle.divisors.specs.Rows.{fractions};
-ghost use Rattle.std.specs.Prelude.{◌≡◌, ◌≤◌, length, unsigned_abs};
+ghost use Rattle.divisors.specs.Rows.{padded};
+ghost use Rattle.divisors.specs.Written.{refused};
+ghost use Rattle.std.specs.Prelude.{◌≡◌, ◌<◌, ◌≤◌, true, [], ◌∷◌, ◌++◌, length, if◌then◌else◌, nat_lt, OnErr, OnOk, unsigned_abs};
 
 use crate::fraction::Fraction;
 use crate::questions::{
     all_divide, any_divides, each_divided_by_one, each_divides_one, is_up_to, only,
 };
+use crate::refusal::Refusal;
 
 // The places of a row.
 pub(crate) const PLACES: usize = 6;
@@ -24,18 +27,38 @@ pub struct Row {
 }
 
 impl Row {
+    // A row that holds none.
+    pub fn empty() -> Row
+        ensures none { fractions result ≡ [] }
+        ensures padded { padded result ≡ true }
+    {
+        Row {
+            items: [NONE; PLACES],
+            count: 0,
+        }
+    }
+
+    // `f` behind the others; refusal 6, and nothing changed, where six are held.
+    pub fn push(&mut self, f: Fraction) -> Result<(), Refusal>
+        ensures refuses { refused result ≡ (if nat_lt (length (fractions self.old)) 6 then None else Some 6) }
+        ensures pushes { OnOk result (fractions self.new ≡ fractions self.old ++ f ∷ []) }
+        ensures padded { padded self.old ≡ true → padded self.new ≡ true }
+        ensures kept { OnErr result (self.new ≡ self.old) }
+    {
+        if self.count >= PLACES {
+            return Err(Refusal::TooMany);
+        }
+        self.items[self.count] = f;
+        self.count += 1;
+        Ok(())
+    }
+
     // The fractions held.
     pub fn fractions(&self) -> &[Fraction]
         ensures list { result.now ≡ fractions self.now }
         ensures few { length result.now ≤ 6 }
     {
-        let few = self.count < PLACES;
-        let _first = self.items[0];
-        if few {
-            &self.items[0..self.count]
-        } else {
-            &self.items
-        }
+        &self.items[..self.count.min(PLACES)]
     }
 
     // Whether an integer is a multiple of each.
