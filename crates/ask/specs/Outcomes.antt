@@ -1,5 +1,5 @@
 -- What a question about an amount leaf comes to.
-use Rattle.std.specs.Prelude.{ℕ, ◌+◌, Bool, true, false, cond, List, [], ◌∷◌, length, take, drop, ℤ, Some, None, Ok, Err, Option, Result, ◌==◌, nat_lt}
+use Rattle.std.specs.Prelude.{ℕ, Bool, false, cond, List, [], ◌∷◌, ℤ, Some, None, Ok, Err, Option, Result, ◌==◌}
 use Rattle.std.specs.Option.{option_map}
 use Rattle.divisors.specs.declared.fraction.Fraction.{Fraction}
 use Rattle.notation.specs.Text.{divisors_of, signed_of, split_at_first}

@@ -14,7 +14,7 @@ use std::io::{BufWriter, Read, Write};
 
 // Writes what each line of the text comes to, and last how many came to what.
 fn ask_all<W: Write>(heap: Global, text: &[u8], out: &mut W) -> io::Result<()> {
-    let mut tally = Tally::new();
+    let mut tally = Tally::default();
     for (k, line) in (1u64..).zip(Lines::of(text)) {
         tally.report(out, k, ask_line(heap, line))?;
     }

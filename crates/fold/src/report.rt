@@ -4,7 +4,7 @@ use std::io::Write;
 use std::{fmt, io};
 
 // How many lines came to what.
-#[derive(Drop)]
+#[derive(Default, Drop)]
 pub(crate) struct Tally {
     folded: u64,
     refused: u64,
@@ -48,14 +48,6 @@ impl fmt::Display for Listed<'_> {
 }
 
 impl Tally {
-    pub(crate) fn new() -> Tally {
-        Tally {
-            folded: 0,
-            refused: 0,
-            malformed: 0,
-        }
-    }
-
     // Writes what line `k` comes to, and counts it.
     pub(crate) fn report<W: Write>(
         &mut self,

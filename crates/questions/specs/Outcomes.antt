@@ -37,9 +37,6 @@ pub record Counts : Type 0 where
 abbrev pub counts : Tally → Counts
 counts t = record { answers = t.answered; refusals = t.refused; others = t.malformed }
 
-abbrev pub no_counts : Counts
-no_counts = record { answers = 0; refusals = 0; others = 0 }
-
 -- one more, as far as 64 bits count
 abbrev pub one_more : ℕ → ℕ
 one_more n = min (n + 1) (2 ^ 64 - 1)

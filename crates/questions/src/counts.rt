@@ -1,4 +1,4 @@
-ghost use Rattle.questions.specs.Outcomes.{counted, counts, no_counts, tally_text};
+ghost use Rattle.questions.specs.Outcomes.{counted, counts, tally_text};
 ghost use Rattle.std.specs.Prelude.{◌≡◌, Some};
 
 use crate::answer::Objection;
@@ -7,7 +7,7 @@ use std::io::Write;
 use std::{fmt, io};
 
 // How many questions came to what.
-#[derive(Drop)]
+#[derive(Default, Drop)]
 pub struct Tally {
     pub answered: u64,
     pub refused: u64,
@@ -31,16 +31,6 @@ impl fmt::Display for Tally {
 }
 
 impl Tally {
-    pub fn new() -> Tally
-        ensures { counts result ≡ no_counts }
-    {
-        Tally {
-            answered: 0,
-            refused: 0,
-            malformed: 0,
-        }
-    }
-
     // Writes what line `k` comes to, and counts it.
     pub fn report<W: Write, M: Display + Drop>(
         &mut self,
