@@ -1,9 +1,10 @@
 -- Dates and weekdays as text.
 use Rattle.std.specs.Prelude.{ℕ, ◌+◌, ◌-◌, ◌^◌, Bool, cond, ◌&&◌, List, [], ◌∷◌, length, take, drop, Some, None, Option, ◌==◌, nat_le, nat_lt, slice_index}
 use Rattle.std.specs.Option.{option_map}
-use Rattle.notation.specs.Text.{is_dash, number_of}
+use Rattle.notation.specs.Text.{is_dash, number_of, stepped}
 use Rattle.days.specs.declared.calendar.Date.{Date}
-use Rattle.ask_days.specs.Splitting.{and_then, is_star}
+use Rattle.questions.specs.Outcomes.{and_then}
+use Rattle.ask_days.specs.Splitting.{is_star}
 
 -- ten bytes with a dash behind the fourth and the seventh
 abbrev pub is_date_shape : List ℕ → Bool
@@ -26,8 +27,7 @@ with_weekday set b = cond (nat_le 49 b && nat_le b 55) (cond (nat_lt set (2 ^ (b
 
 -- the weekdays of a row of digits behind those of a set
 abbrev pub weekdays_after : ℕ → List ℕ → Option ℕ
-weekdays_after set [] = Some set
-weekdays_after set (b ∷ bs) = elim (with_weekday set b) [ Some more ↦ weekdays_after more bs | None ↦ None ]
+weekdays_after set bs = stepped with_weekday set bs
 
 -- ascending digits; a dash alone is none
 abbrev pub weekdays_in : List ℕ → Option ℕ

@@ -1,4 +1,3 @@
-pub mod Outcomes
 pub mod Splitting
 pub mod DayTexts
 pub mod Questions

@@ -1,28 +1,14 @@
 ghost use Rattle.ask_days.specs.DayTexts.{date_bound_in, date_in, is_date_shape, weekdays_after, weekdays_in, with_weekday};
 ghost use Rattle.std.specs.Prelude.{◌≡◌};
 
-use crate::line::is_star;
 use days::Date;
-use notation::{behind, front, number};
-
-const DASH: u8 = 45;
-
-// The digits of Monday and Sunday.
-const MONDAY: u8 = 49;
-
-const SUNDAY: u8 = 55;
+use notation::number;
 
 // Whether a text is ten bytes with a dash behind the fourth and the seventh.
 fn is_date_shape(text: &[u8]) -> bool
     ensures { result ≡ is_date_shape text.now }
 {
-    if text.len() != 10 {
-        return false;
-    }
-    if text[4] != DASH {
-        return false;
-    }
-    text[7] == DASH
+    matches!(text, [_, _, _, _, b'-', _, _, b'-', _, _])
 }
 
 // The date that a text writes, whether there is such a day or not.
@@ -32,9 +18,9 @@ pub(crate) fn date_of(text: &[u8]) -> Option<Date>
     if !is_date_shape(text) {
         return None;
     }
-    let year = number(front(text, 4))?;
-    let month = number(front(behind(text, 4), 2))?;
-    let day = number(behind(text, 7))?;
+    let year = number(&text[..4])?;
+    let month = number(&text[5..7])?;
+    let day = number(&text[8..])?;
     Some(Date { year, month, day })
 }
 
@@ -42,24 +28,20 @@ pub(crate) fn date_of(text: &[u8]) -> Option<Date>
 pub(crate) fn date_bound_of(text: &[u8]) -> Option<Option<Date>>
     ensures { result ≡ date_bound_in text.now }
 {
-    if is_star(text) {
-        return Some(None);
+    match text {
+        [b'*'] => Some(None),
+        _ => Some(Some(date_of(text)?)),
     }
-    let date = date_of(text)?;
-    Some(Some(date))
 }
 
 // A weekday more, which comes behind all those of the set.
 fn with_weekday(set: u64, b: u8) -> Option<u64>
     ensures { result ≡ with_weekday set b }
 {
-    if b < MONDAY {
+    let b'1'..=b'7' = b else {
         return None;
-    }
-    if b > SUNDAY {
-        return None;
-    }
-    let day = 1u64 << (b - MONDAY);
+    };
+    let day = 1u64 << (b - b'1');
     if set >= day {
         return None;
     }
@@ -70,14 +52,7 @@ fn with_weekday(set: u64, b: u8) -> Option<u64>
 fn digits(text: &[u8]) -> Option<u64>
     ensures { result ≡ weekdays_after 0 text.now }
 {
-    let mut set = 0;
-    for b in text {
-        let Some(more) = with_weekday(set, *b) else {
-            return None;
-        };
-        set = more;
-    }
-    Some(set)
+    text.iter().try_fold(0, |set, b| with_weekday(set, *b))
 }
 
 // The set of weekdays that a text writes; a dash is none.
@@ -86,7 +61,7 @@ pub(crate) fn weekdays_of(text: &[u8]) -> Option<u64>
 {
     match text {
         [] => None,
-        [DASH] => Some(0),
+        [b'-'] => Some(0),
         _ => digits(text),
     }
 }

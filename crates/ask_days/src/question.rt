@@ -1,40 +1,45 @@
-ghost use Rattle.ask_days.specs.Outcomes.{said};
 ghost use Rattle.ask_days.specs.Questions.{fields_outcome, outcome_of};
-ghost use Rattle.std.specs.Prelude.{◌≡◌};
+ghost use Rattle.questions.specs.Outcomes.{said};
+ghost use Rattle.std.specs.Prelude.{◌≡◌, Some};
 
-use crate::answer::{Answer, Wrong, yes_or_no};
 use crate::day_text::{date_bound_of, date_of, weekdays_of};
+use crate::wrong::Wrong;
 use days::{Date, DayLeaf, day_number};
 use leaf::{Fault, Refusal, admits};
+use questions::Objection;
+
+// The fields of a line.
+#[derive(Clone, Copy)]
+pub(crate) struct Fields<'a> {
+    pub minimum: &'a [u8],
+    pub maximum: &'a [u8],
+    pub weekdays: &'a [u8],
+    pub value: &'a [u8],
+}
 
 // Whether the leaf of these bounds and weekdays admits a date.
-fn ask_leaf(low: Option<Date>, high: Option<Date>, set: u64, date: Date) -> Answer
-    ensures { said result ≡ outcome_of low high set date }
+fn ask_leaf(
+    low: Option<Date>,
+    high: Option<Date>,
+    set: u64,
+    date: Date,
+) -> Result<bool, Objection<Wrong>>
+    ensures { said result ≡ Some (outcome_of low high set date) }
 {
-    match DayLeaf::new(low, high, set) {
-        Ok(leaf) => match day_number(date.year, date.month, date.day) {
-            Some(day) => yes_or_no(admits(&leaf, day)),
-            None => Answer::Refuses(Fault::unplaced(Refusal::OutOfRange)),
-        },
-        Err(fault) => Answer::Refuses(fault),
-    }
+    let leaf = DayLeaf::new(low, high, set)?;
+    let day = day_number(date.year, date.month, date.day).ok_or(Fault::unplaced(
+        Refusal::OutOfRange,
+    ))?;
+    Ok(admits(&leaf, day))
 }
 
 // What a question comes to, by the text of its fields.
-pub(crate) fn ask_fields(minimum: &[u8], maximum: &[u8], weekdays: &[u8], value: &[u8]) -> Answer
-    ensures { said result ≡ fields_outcome minimum.now maximum.now weekdays.now value.now }
+pub(crate) fn ask_fields(fields: &Fields<'_>) -> Result<bool, Objection<Wrong>>
+    ensures { said result ≡ Some (fields_outcome fields.now.minimum.now fields.now.maximum.now fields.now.weekdays.now fields.now.value.now) }
 {
-    let Some(low) = date_bound_of(minimum) else {
-        return Answer::Malformed(Wrong::Minimum);
-    };
-    let Some(high) = date_bound_of(maximum) else {
-        return Answer::Malformed(Wrong::Maximum);
-    };
-    let Some(set) = weekdays_of(weekdays) else {
-        return Answer::Malformed(Wrong::Weekdays);
-    };
-    let Some(date) = date_of(value) else {
-        return Answer::Malformed(Wrong::Value);
-    };
+    let low = date_bound_of(fields.minimum).ok_or(Wrong::Minimum)?;
+    let high = date_bound_of(fields.maximum).ok_or(Wrong::Maximum)?;
+    let set = weekdays_of(fields.weekdays).ok_or(Wrong::Weekdays)?;
+    let date = date_of(fields.value).ok_or(Wrong::Value)?;
     ask_leaf(low, high, set, date)
 }

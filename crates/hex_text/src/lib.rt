@@ -1,38 +1,23 @@
 // Bytes as text: two hexadecimal digits each, spaces between bytes.
 #![tactic(auto)]
 
-ghost use Rattle.std.specs.Prelude.{◌≡◌, ◌<◌, length, drop, IfSome, IfOk, vec_items};
-ghost use Rattle.hex_text.specs.Hex.{byte_in, byte_of, digit_of, hex_of};
+ghost use Rattle.hex_text.specs.Hex.{byte_of, digit_of, hex_of};
 ghost use Rattle.std.specs.Option.{option_map};
+ghost use Rattle.std.specs.Prelude.{◌≡◌, ◌<◌, IfSome, IfOk, vec_items};
 
 use std::alloc::{AllocError, Global};
-
-const SPACE: u8 = 32;
 
 // The value of a digit.
 fn digit(b: u8) -> Option<u8>
     ensures value { result ≡ digit_of b }
     ensures small { IfSome result (λ d. d < 16) }
 {
-    if b < 48 {
-        return None;
+    match b {
+        b'0'..=b'9' => Some(b - b'0'),
+        b'A'..=b'F' => Some(b - b'A' + 10),
+        b'a'..=b'f' => Some(b - b'a' + 10),
+        _ => None,
     }
-    if b < 58 {
-        return Some(b - 48);
-    }
-    if b < 65 {
-        return None;
-    }
-    if b < 71 {
-        return Some(b - 55);
-    }
-    if b < 97 {
-        return None;
-    }
-    if b < 103 {
-        return Some(b - 87);
-    }
-    None
 }
 
 // The byte of two digits, if both are.
@@ -44,33 +29,24 @@ fn byte_of(high: u8, low: u8) -> Option<u8>
     Some(16 * h + l)
 }
 
-// The byte that is written at `i`.
-fn byte_at(text: &[u8], i: usize) -> Option<u8>
-    requires { i < length text.now }
-    ensures { result ≡ byte_in (drop i text.now) }
-{
-    if i + 1 < text.len() {
-        byte_of(text[i], text[i + 1])
-    } else {
-        None
-    }
-}
-
 // The bytes that a text writes, if it writes bytes.
 pub fn read_hex(heap: Global, text: &[u8]) -> Result<Option<Vec<u8>>, AllocError>
     ensures { IfOk result (λ o. option_map vec_items o ≡ hex_of text.now) }
 {
-    let mut i = 0;
     let mut bytes = Vec::new(heap);
-    while i < text.len() {
-        if text[i] == SPACE {
-            i += 1;
+    let mut rest = text;
+    while let [first, behind @ ..] = rest {
+        if *first == b' ' {
+            rest = behind;
         } else {
-            let Some(n) = byte_at(text, i) else {
+            let [second, more @ ..] = behind else {
                 return Ok(None);
             };
-            bytes.push(n)?;
-            i += 2;
+            let Some(byte) = byte_of(*first, *second) else {
+                return Ok(None);
+            };
+            bytes.push(byte)?;
+            rest = more;
         }
     }
     Ok(Some(bytes))

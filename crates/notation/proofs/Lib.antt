@@ -1,2 +1,3 @@
-pub mod Reading
-pub mod Splitting
+pub mod Cuts
+pub mod Parts
+pub mod Stepping

@@ -1,22 +1,30 @@
 -- Divisors as text.
-use Rattle.std.specs.Prelude.{ℕ, suc, ◌+◌, ◌-◌, ◌*◌, ◌^◌, min, Bool, true, false, cond, ◌&&◌, List, [], ◌∷◌, map, length, take, drop, Some, None, Option, ◌==◌, nat_le, nat_lt}
+use Rattle.std.specs.Prelude.{ℕ, ◌+◌, ◌-◌, ◌*◌, ◌^◌, min, Bool, true, false, cond, ◌&&◌, List, [], ◌∷◌, map, length, take, drop, Some, None, Option, ◌==◌, nat_le, nat_lt}
+use Rattle.std.specs.List.{onto_first, position_or_len, slice_split}
 use Rattle.std.specs.Option.{option_map}
 use Rattle.divisors.specs.declared.fraction.Fraction.{Fraction}
-use Rattle.notation.specs.declared.SignedNumber.{SignedNumber}
+use Rattle.notation.specs.declared.numbers.SignedNumber.{SignedNumber}
 
 -- the place of the first byte c, or the length where there is none
 abbrev pub index_of : ℕ → List ℕ → ℕ
-index_of c [] = 0
-index_of c (b ∷ bs) = cond (b == c) 0 (suc (index_of c bs))
+index_of c bs = position_or_len (λ b. b == c) bs
+
+-- what stands before the first byte c and what stands behind it, if there is one
+abbrev pub split_at_first : ℕ → List ℕ → Option (List ℕ × List ℕ)
+split_at_first c bs = cond (nat_lt (index_of c bs) (length bs)) (Some (take (index_of c bs) bs, drop (index_of c bs + 1) bs)) None
 
 -- one decimal digit more; what passes 2^64 - 1 counts as that
 abbrev pub with_digit : ℕ → ℕ → Option ℕ
 with_digit n b = cond (nat_le 48 b && nat_le b 57) (Some (min (n * 10 + (b - 48)) (2 ^ 64 - 1))) None
 
+-- bytes one after another, each of which takes a number a step on; nothing where one takes it nowhere
+abbrev pub stepped : (ℕ → ℕ → Option ℕ) → ℕ → List ℕ → Option ℕ
+stepped step n [] = Some n
+stepped step n (b ∷ bs) = elim (step n b) [ Some m ↦ stepped step m bs | None ↦ None ]
+
 -- the digits bs behind those that write n
 abbrev pub digits_after : ℕ → List ℕ → Option ℕ
-digits_after n [] = Some n
-digits_after n (b ∷ bs) = elim (with_digit n b) [ Some m ↦ digits_after m bs | None ↦ None ]
+digits_after n bs = stepped with_digit n bs
 
 -- the number that a row of digits writes
 abbrev pub number_of : List ℕ → Option ℕ
@@ -32,15 +40,14 @@ fraction_of None q = None
 abbrev pub divisor_of : List ℕ → Option Fraction
 divisor_of bs = cond (nat_lt (index_of 47 bs) (length bs)) (fraction_of (number_of (take (index_of 47 bs) bs)) (number_of (drop (index_of 47 bs + 1) bs))) (fraction_of (number_of bs) (Some 1))
 
--- a byte in front of the first part
-abbrev pub onto : ℕ → List (List ℕ) → List (List ℕ)
-onto b [] = (b ∷ []) ∷ []
-onto b (p ∷ ps) = (b ∷ p) ∷ ps
-
 -- the parts of a text between bytes c
 abbrev pub pieces : ℕ → List ℕ → List (List ℕ)
-pieces c [] = [] ∷ []
-pieces c (b ∷ bs) = cond (b == c) ([] ∷ pieces c bs) (onto b (pieces c bs))
+pieces c bs = slice_split (λ b. b == c) bs
+
+-- the lines of a text: what stands between line feeds; one at the end begins no line
+abbrev pub lines_of : List ℕ → List (List ℕ)
+lines_of [] = []
+lines_of (b ∷ bs) = cond (b == 10) ([] ∷ lines_of bs) (onto_first b (lines_of bs))
 
 -- all of them, if each is there
 abbrev pub listed : List (Option Fraction) → Option (List Fraction)

@@ -1,14 +1,20 @@
-use Rattle.hex_text.proofs.Texts.{all_bytes, with_byte, with_space, without_byte}
+use Rattle.std.proofs.Common.{sym}
+use Rattle.hex_text.proofs.Texts.{all_read, cut_short, no_byte, one_byte, past_space}
 use Rattle.hex_text.proofs.read_hex.Goals as goal
 
-pub loop-i-preserved-then-text-i-eq-SPACE : goal.loop-i-preserved-then-text-i-eq-SPACE
-loop-i-preserved-then-text-i-eq-SPACE c = with_space c.args.text.now _ c.loop-i-test.true _ c.loop-i.invariant c.if-text-i-eq-SPACE.true
+pub loop-rest-preserved-then-first-eq32 : goal.loop-rest-preserved-then-first-eq32
+loop-rest-preserved-then-first-eq32 c = past_space _ _ c.loop-rest.rest.now c.in-len1-up.len_at_least c.if-first-eq32.true c.loop-rest.invariant
 
-pub returns-in_default : goal.returns-in_default
-returns-in_default c = without_byte c.args.text.now _ c.loop-i-test.true _ c.loop-i.invariant c.if-text-i-eq-SPACE.false c.in_default.ensures
+pub returns-in_default-behind : goal.returns-in_default-behind
+returns-in_default-behind c = cut_short _ _ c.loop-rest.rest.now c.in-len1-up.len_at_least c.if-first-eq32.false c.in_default-behind.len_below c.loop-rest.invariant
 
-pub loop-i-preserved : goal.loop-i-preserved
-loop-i-preserved c = with_byte c.args.text.now _ c.loop-i-test.true _ c.loop-i.invariant c.in-Some.n _ c.if-text-i-eq-SPACE.false c.in-Some.ensures c.in_ok-push.ensures.items
+pub returns-in_default-byte_of : goal.returns-in_default-byte_of
+returns-in_default-byte_of c =
+    no_byte _ _ c.byte_of.result c.loop-rest.rest.now (c.in-len1-up.len_at_least, c.if-first-eq32.false, c.in-len1-up-behind.len_at_least, c.byte_of.ensures) (sym c.in_default-byte_of.is) c.loop-rest.invariant
+
+pub loop-rest-preserved : goal.loop-rest-preserved
+loop-rest-preserved c =
+    one_byte _ _ c.byte_of.result c.loop-rest.rest.now c.in-Some.byte _ (c.in-len1-up.len_at_least, c.if-first-eq32.false, c.in-len1-up-behind.len_at_least, c.byte_of.ensures) (sym c.in-Some.is) c.in_ok-push.ensures.items c.loop-rest.invariant
 
 pub returns : goal.returns
-returns c = all_bytes c.args.text.now _ _ c.loop-i-test.false c.loop-i.invariant
+returns c = all_read _ _ c.loop-rest.rest.now c.in_default.len_below c.loop-rest.invariant

@@ -1,11 +1,11 @@
-use Rattle.std.proofs.Common.{◌≡◌, ℕ, ◌-◌, List, ◌++◌, length, drop, vec_items}
-use Rattle.std.specs.Option.{option_map}
+use Rattle.std.proofs.Common.{◌≡◌, length, vec_items}
 use Rattle.hex_text.specs.Hex.{hex_of}
+use Rattle.hex_text.proofs.Texts.{joined}
 use Rattle.hex_text.proofs.read_hex.Given as goal
 
 -- the bytes so far, then those of the rest
-abbrev pub invariant-loop-i : goal.invariant-loop-i
-invariant-loop-i l = option_map (λ (ms : List ℕ). vec_items l.bytes ++ ms) (hex_of (drop l.i l.text)) ≡ hex_of l.text
+abbrev pub invariant-loop-rest : goal.invariant-loop-rest
+invariant-loop-rest l = joined (vec_items l.bytes) l.rest ≡ hex_of l.text
 
-abbrev pub decreases-loop-i : goal.decreases-loop-i
-decreases-loop-i l = length l.text - l.i
+abbrev pub decreases-loop-rest : goal.decreases-loop-rest
+decreases-loop-rest l = length l.rest

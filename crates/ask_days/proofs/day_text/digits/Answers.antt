@@ -1,11 +1,12 @@
-use Rattle.ask_days.proofs.Digits.{weekday_end, weekday_none, weekday_on}
+use Rattle.std.proofs.Common.{List, ℕ, rules, subst}
+use Rattle.std.proofs.lemmas.Fn.{fronts, slice_gives}
+use Rattle.std.specs.Iterator.{AlwaysYields}
+use Rattle.ask_days.specs.DayTexts.{with_weekday}
+use Rattle.notation.proofs.Stepping.{stepped_by}
 use Rattle.ask_days.proofs.day_text.digits.Goals as goal
 
-pub returns-in_default : goal.returns-in_default
-returns-in_default c = weekday_none c.loop-b.set c.args.text.now c.loop-b.b-index c.loop-b-test.true c.in_default.ensures c.loop-b.invariant
-
-pub loop-b-preserved : goal.loop-b-preserved
-loop-b-preserved c = weekday_on c.loop-b.set c.args.text.now c.loop-b.b-index c.in-Some.more c.loop-b-test.true c.in-Some.ensures c.loop-b.invariant
-
 pub returns : goal.returns
-returns c = weekday_end c.loop-b.set c.args.text.now c.loop-b.b-index c.loop-b-test.false c.loop-b.invariant
+returns c =
+    let h = c.try_fold.ensures.ran in
+    stepped_by _ with_weekday (tt {0}) (λ n x r q k. search rules) _ c.iter.result _ c.args.text.now 0 _
+    (subst (λ (bs : List ℕ). AlwaysYields fronts (λ y. y.now) c.iter.result bs) c.iter.ensures.rest (slice_gives c.iter.result)) h.0 h.1 h.2 h.3 h.4 h.5 h.6

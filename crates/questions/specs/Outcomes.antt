@@ -1,0 +1,53 @@
+-- What a question about a leaf comes to.
+use Rattle.std.specs.Prelude.{ℕ, ◌+◌, ◌-◌, ◌^◌, min, Bool, List, ◌++◌, codes, Some, None, Ok, Err, Option, Result}
+use Rattle.std.specs.Fmt.{decimal}
+use Rattle.leaf.specs.Faults.{number_of}
+use Rattle.questions.specs.declared.answer.Objection.{Objection}
+use Rattle.questions.specs.declared.answer.Objection.TheVariants.{Refused, Malformed, OutOfMemory}
+use Rattle.questions.specs.declared.counts.Tally.{Tally}
+
+-- a yes or no, a refusal by its number, or text of another form
+pub data Outcome (M : Type 0) : Type 0 where
+  answered : Bool → Outcome M
+  refused : ℕ → Outcome M
+  malformed : M → Outcome M
+
+-- the outcome that an answer says, where memory did not run out
+abbrev pub said : {M : Type 0} → Result Bool (Objection M) → Option (Outcome M)
+said (Ok b) = Some (answered b)
+said (Err (Refused f)) = Some (refused (number_of f.refusal))
+said (Err (Malformed w)) = Some (malformed w)
+said (Err (OutOfMemory e)) = None
+
+abbrev pub and_then : {A B : Type 0} → Option A → (A → Option B) → Option B
+and_then None f = None
+and_then (Some x) f = f x
+
+-- what is read goes on, and what is not read is what is wrong
+abbrev pub or_else : {A M : Type 0} → M → Option A → (A → Outcome M) → Outcome M
+or_else w None f = malformed w
+or_else w (Some x) f = f x
+
+-- how many answered, refused and malformed
+pub record Counts : Type 0 where
+  pub answers : ℕ
+  pub refusals : ℕ
+  pub others : ℕ
+
+abbrev pub counts : Tally → Counts
+counts t = record { answers = t.answered; refusals = t.refused; others = t.malformed }
+
+-- one more, as far as 64 bits count
+abbrev pub one_more : ℕ → ℕ
+one_more n = min (n + 1) (2 ^ 64 - 1)
+
+-- the counts after an answer
+abbrev pub counted : {M : Type 0} → Result Bool (Objection M) → Counts → Counts
+counted (Ok b) c = record { answers = one_more c.answers; refusals = c.refusals; others = c.others }
+counted (Err (Refused f)) c = record { answers = c.answers; refusals = one_more c.refusals; others = c.others }
+counted (Err (Malformed w)) c = record { answers = c.answers; refusals = c.refusals; others = one_more c.others }
+counted (Err (OutOfMemory e)) c = c
+
+-- the counts as text
+abbrev pub tally_text : Counts → List ℕ
+tally_text c = codes "answered " ++ (decimal c.answers ++ (codes ", refused " ++ (decimal c.refusals ++ (codes ", malformed " ++ decimal c.others))))
