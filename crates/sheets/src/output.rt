@@ -17,33 +17,25 @@ pub struct Printed {
     pub text: Vec<u8>,
 }
 
-// How many lines a sheet came to, and the list's answer.
-#[derive(Clone, Copy)]
-struct Taken {
-    count: usize,
-    answer: SheetAnswer,
-}
-
-// Takes the sheet into a new list in the table: the lines then stand in front in it.
-fn take_sheet<V: Copy, L: Leaf<V>>(table: &mut [L], sheet: &[u8]) -> Taken
-    ensures within { result.count ≤ length table.new }
-    ensures answer { Tells result.answer (sheet_outcome L.kind (length table.old) sheet.now []) }
-    ensures promised { Promised L.kind (length table.old) (call-sheet sheet.now ∷ []) (take result.count table.new) }
+// Takes the sheet into a new list in the table: the lines then stand in front in it, and how many they are comes beside the list's answer.
+fn take_sheet<V: Copy, L: Leaf<V>>(table: &mut [L], sheet: &[u8]) -> (SheetAnswer, usize)
+    ensures within { result.1 ≤ length table.new }
+    ensures answer { Tells result.0 (sheet_outcome L.kind (length table.old) sheet.now []) }
+    ensures promised { Promised L.kind (length table.old) (call-sheet sheet.now ∷ []) (take result.1 table.new) }
 {
     let mut list = Leaves::open(table);
     let answer = list.sheet(sheet);
-    let count = list.count();
-    Taken { count, answer }
+    (answer, list.count())
 }
 
 // What refused the sheet, if anything did, behind what is there.
 fn append_stop(text: &mut Vec<u8>, stop: Option<Fault>) -> Result<(), AllocError>
     ensures { OnOk result (text.new.items ≡ text.old.items ++ stop_text (stopped stop)) }
 {
-    let Some(fault) = stop else {
-        return Ok(());
-    };
-    append_line(text, &fault)
+    match stop {
+        None => Ok(()),
+        Some(fault) => append_line(text, &fault),
+    }
 }
 
 // What the sheet comes to in a new list in the table.
@@ -54,11 +46,9 @@ pub(crate) fn output_of<V: Copy, L: Leaf<V> + Line>(
 ) -> Result<Printed, AllocError>
     ensures { IfOk result (λ p. Prints L.kind L.Line.text (length table.old) sheet.now p) }
 {
-    let taken = take_sheet(table, sheet);
-    let answer = taken.answer;
-    let count = taken.count;
+    let (answer, count) = take_sheet(table, sheet);
     let mut text = Vec::new(heap);
-    append_lines(&mut text, &table[0..count])?;
+    append_lines(&mut text, &table[..count])?;
     append_stop(&mut text, answer.fault)?;
     Ok(Printed { answer, text })
 }

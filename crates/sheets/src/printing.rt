@@ -15,10 +15,7 @@ const PLACES: usize = 128;
 pub fn is_of_days(sheet: &[u8]) -> bool
     ensures { result ≡ is_of_days sheet.now }
 {
-    let [first, ..] = sheet else {
-        return false;
-    };
-    DayLeaf::is_kind(*first)
+    sheet.first().is_some_and(|b| DayLeaf::is_kind(*b))
 }
 
 // What a sheet comes to: one that does not begin as a sheet of days is taken as one of amounts.
@@ -26,11 +23,10 @@ pub fn print_sheet(heap: Global, sheet: &[u8]) -> Result<Printed, AllocError>
     ensures prints { IfOk result (λ p. prints_sheet sheet.now p) }
     ensures worked { WorkedLists }
 {
+    // A table for each kind, and not one generic function: of a table of any kind it is not known that it fits in memory.
     if is_of_days(sheet) {
-        let mut table = [DayLeaf::blank(); PLACES];
-        output_of(heap, &mut table, sheet)
+        output_of(heap, &mut [DayLeaf::blank(); PLACES], sheet)
     } else {
-        let mut table = [AmountLeaf::blank(); PLACES];
-        output_of(heap, &mut table, sheet)
+        output_of(heap, &mut [AmountLeaf::blank(); PLACES], sheet)
     }
 }

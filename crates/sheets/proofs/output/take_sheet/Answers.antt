@@ -14,7 +14,7 @@ returns g c =
     let n : length c.open-list.result.table.now ≡ length c.args.table.now = ap length opened.table.1 in
     let answer = c.sheet-answer.ensures in
     let run = answer.run [] opened.run in
-    let promised = subst (λ (i : ℕ). Promised k i cs (held_of c.count-count.new.self)) (answer.places ∙ n) (c.count-count.ensures.promises cs run) in
+    let promised = subst (λ (i : ℕ). Promised k i cs (held_of c.count.new.self)) (answer.table.places ∙ n) (c.count.ensures.promises cs run) in
     record {
       within = search rules;
       answer = subst (λ h. Tells c.sheet-answer.result (sheet_outcome k (length c.args.table.now) b h)) opened.held (subst (λ (i : ℕ). Tells c.sheet-answer.result (sheet_outcome k i b (held_of c.open-list.result))) n answer.answer);
