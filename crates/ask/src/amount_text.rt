@@ -8,6 +8,7 @@ use notation::signed;
 fn amount_of(text: &[u8]) -> Option<WrittenAmount>
     ensures { result ≡ amount_in text.now }
 {
+    // By hand, not by From: neither type is this crate's.
     let n = signed(text)?;
     Some(WrittenAmount {
         magnitude: n.magnitude,

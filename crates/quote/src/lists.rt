@@ -14,6 +14,7 @@ pub(crate) fn write_lines<W: Write, V: Copy, L: Leaf<V> + Line>(
 ) -> io::Result<usize> {
     let count = list.count();
     let mut place = L::blank();
+    // A line by its number, into one place: that is how the list hands its lines out.
     for n in 0..count {
         if list.line(n, &mut place) {
             let mut text = Vec::new(heap);

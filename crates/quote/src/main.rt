@@ -4,7 +4,7 @@
 mod batch;
 mod lists;
 
-use crate::batch::{Tally, take_batch};
+use crate::batch::{Taken, take_batch};
 use crate::lists::write_lines;
 use amounts::AmountLeaf;
 use days::DayLeaf;
@@ -23,23 +23,25 @@ fn quote<W: Write>(heap: Global, batch: &[u8], out: &mut W) -> io::Result<()> {
     let mut day_table = [DayLeaf::blank(); PLACES];
     let mut amounts = Leaves::open(&mut amount_table);
     let mut days = Leaves::open(&mut day_table);
-    let mut remarks = Vec::new(heap);
-    let tally = take_batch(heap, batch, &mut amounts, &mut days, &mut remarks)?;
+    let taken = take_batch(heap, batch, &mut amounts, &mut days)?;
     let amount_lines = write_lines(heap, out, "amounts", &mut amounts)?;
     let day_lines = write_lines(heap, out, "days", &mut days)?;
-    out.write_all(&remarks)?;
-    write_tally(out, &tally, amount_lines.saturating_add(day_lines))
+    write_taken(out, &taken, amount_lines.saturating_add(day_lines))
 }
 
-// What was completed.
-fn write_tally<W: Write>(out: &mut W, tally: &Tally, lines: usize) -> io::Result<()> {
-    let sheets = tally.sheets;
-    let accepted = tally.accepted;
-    let refused = tally.refused;
-    let malformed = tally.malformed;
-    write!(
+// What there was to remark, and what was completed.
+fn write_taken<W: Write>(out: &mut W, taken: &Taken, lines: usize) -> io::Result<()> {
+    let Taken {
+        sheets,
+        accepted,
+        refused,
+        malformed,
+        remarks,
+    } = taken;
+    out.write_all(remarks)?;
+    writeln!(
         out,
-        "sheets taken {sheets}, leaves accepted {accepted}, lines billed {lines}, refusals {refused}, malformed lines {malformed}\n"
+        "sheets taken {sheets}, leaves accepted {accepted}, lines billed {lines}, refusals {refused}, malformed lines {malformed}"
     )
 }
 
