@@ -1,5 +1,5 @@
 -- What a question about an amount leaf comes to.
-use Rattle.std.specs.Prelude.{ℕ, Bool, false, cond, List, [], ◌∷◌, ℤ, Some, None, Ok, Err, Option, Result, ◌==◌}
+use Rattle.std.specs.Prelude.{ℕ, cond, List, ℤ, Some, None, Ok, Err, Option, Result}
 use Rattle.std.specs.Option.{option_map}
 use Rattle.divisors.specs.declared.fraction.Fraction.{Fraction}
 use Rattle.notation.specs.Text.{divisors_of, signed_of, split_at_first}
@@ -10,7 +10,7 @@ use Rattle.amounts.specs.declared.amount_leaf.AmountLeaf.{AmountLeaf}
 use Rattle.amounts.specs.Amounts.{amounts}
 use Rattle.amounts.specs.Making.{made_of}
 use Rattle.amounts.specs.Values.{amount_of}
-use Rattle.questions.specs.Outcomes.{Outcome, and_then, answered, or_else, refused}
+use Rattle.questions.specs.Outcomes.{Outcome, and_then, answered, is_star, or_else, refused}
 use Rattle.ask.specs.declared.line.Fields.{Fields}
 use Rattle.ask.specs.declared.wrong.Wrong.{Wrong}
 use Rattle.ask.specs.declared.wrong.Wrong.TheVariants.{Fields as NotFive, Minimum, Maximum, Required, Barred, Value}
@@ -18,12 +18,6 @@ use Rattle.ask.specs.declared.wrong.Wrong.TheVariants.{Fields as NotFive, Minimu
 -- the amount that a text writes: an optional dash and digits
 abbrev pub amount_in : List ℕ → Option WrittenAmount
 amount_in bs = option_map (λ n. record { magnitude = n.magnitude; negative = n.negative }) (signed_of bs)
-
--- a star alone
-abbrev pub is_star : List ℕ → Bool
-is_star [] = false
-is_star (b ∷ []) = b == 42
-is_star (b ∷ c ∷ bs) = false
 
 -- the bound that a text writes, absent where it is a star
 abbrev pub bound_in : List ℕ → Option (Option WrittenAmount)

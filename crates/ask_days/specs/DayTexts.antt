@@ -3,8 +3,7 @@ use Rattle.std.specs.Prelude.{ℕ, ◌+◌, ◌-◌, ◌^◌, Bool, cond, ◌&&�
 use Rattle.std.specs.Option.{option_map}
 use Rattle.notation.specs.Text.{is_dash, number_of, stepped}
 use Rattle.days.specs.declared.calendar.Date.{Date}
-use Rattle.questions.specs.Outcomes.{and_then}
-use Rattle.ask_days.specs.Splitting.{is_star}
+use Rattle.questions.specs.Outcomes.{and_then, is_star}
 
 -- ten bytes with a dash behind the fourth and the seventh
 abbrev pub is_date_shape : List ℕ → Bool

@@ -1,14 +1,8 @@
 -- A line's fields, with one space between.
-use Rattle.std.specs.Prelude.{ℕ, Bool, false, List, [], ◌∷◌, length, Some, Option, ◌==◌, nat_lt}
+use Rattle.std.specs.Prelude.{ℕ, Bool, List, length, Some, Option, nat_lt}
 use Rattle.notation.specs.Text.{index_of, split_at_first}
 use Rattle.questions.specs.Outcomes.{and_then}
 use Rattle.ask_days.specs.declared.question.Fields.{Fields}
-
--- a star alone
-abbrev pub is_star : List ℕ → Bool
-is_star [] = false
-is_star (b ∷ []) = b == 42
-is_star (b ∷ c ∷ bs) = false
 
 abbrev pub has_space : List ℕ → Bool
 has_space bs = nat_lt (index_of 32 bs) (length bs)

@@ -3,7 +3,7 @@ use divisors::{Folded, Fraction, Thinned};
 use std::io::Write;
 use std::{fmt, io};
 
-// How many lines came to what.
+// How many lines came to what. Not the tally of questions: an answer is two lists, and a refusal is one of divisors.
 #[derive(Default, Drop)]
 pub(crate) struct Tally {
     folded: u64,

@@ -1,5 +1,5 @@
 -- What a question about a leaf comes to.
-use Rattle.std.specs.Prelude.{ℕ, ◌+◌, ◌-◌, ◌^◌, min, Bool, List, ◌++◌, codes, Some, None, Ok, Err, Option, Result}
+use Rattle.std.specs.Prelude.{ℕ, ◌+◌, ◌-◌, ◌^◌, min, Bool, false, List, [], ◌∷◌, ◌++◌, ◌==◌, codes, Some, None, Ok, Err, Option, Result}
 use Rattle.std.specs.Fmt.{decimal}
 use Rattle.leaf.specs.Faults.{number_of}
 use Rattle.questions.specs.declared.answer.Objection.{Objection}
@@ -18,6 +18,12 @@ said (Ok b) = Some (answered b)
 said (Err (Refused f)) = Some (refused (number_of f.refusal))
 said (Err (Malformed w)) = Some (malformed w)
 said (Err (OutOfMemory e)) = None
+
+-- a star alone, which stands for an absent bound
+abbrev pub is_star : List ℕ → Bool
+is_star [] = false
+is_star (b ∷ []) = b == 42
+is_star (b ∷ c ∷ bs) = false
 
 abbrev pub and_then : {A B : Type 0} → Option A → (A → Option B) → Option B
 and_then None f = None
