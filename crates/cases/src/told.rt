@@ -1,4 +1,3 @@
-use leaf::Layer;
 use list::SheetAnswer;
 use std::fmt;
 
@@ -19,15 +18,6 @@ impl fmt::Display for Hex<'_> {
     }
 }
 
-fn layer_name(layer: Layer) -> &'static str {
-    match layer {
-        Layer::Bytes => "bytes",
-        Layer::Leaf => "leaf",
-        Layer::List => "list",
-        Layer::Neither => "-",
-    }
-}
-
 // Leaves accepted, the start, and number, byte and layer of what refused the sheet.
 #[derive(Clone, Copy)]
 pub(crate) struct Told(pub SheetAnswer);
@@ -44,7 +34,7 @@ impl fmt::Display for Told {
             return write!(f, "- - -");
         };
         let number = fault.refusal.number();
-        let layer = layer_name(fault.layer);
+        let layer = fault.layer;
         match fault.byte {
             Some(byte) => write!(f, "{number} {byte} {layer}"),
             None => write!(f, "{number} - {layer}"),
