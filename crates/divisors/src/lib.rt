@@ -5,7 +5,6 @@ mod editing;
 mod folded;
 mod folding;
 mod fraction;
-mod questions;
 mod refusal;
 mod row;
 mod thinned;

@@ -7,10 +7,8 @@ ghost use Rattle.divisors.specs.Written.{refused};
 ghost use Rattle.std.specs.Prelude.{◌≡◌, ◌≤◌, true, [], ◌∷◌, ◌++◌, length, if◌then◌else◌, nat_lt, OnErr, OnOk, unsigned_abs};
 
 use crate::fraction::Fraction;
-use crate::questions::{
-    all_divide, any_divides, each_divided_by_one, each_divides_one, is_up_to, only,
-};
 use crate::refusal::Refusal;
+use std::cmp::Ordering;
 
 // The places of a row.
 pub(crate) const PLACES: usize = 6;
@@ -65,44 +63,64 @@ impl Row {
     pub fn divide(&self, v: i64) -> bool
         ensures { result ≡ every (is_multiple (unsigned_abs v)) (fractions self.now) }
     {
-        all_divide(self.fractions(), v.unsigned_abs())
+        self.fractions().iter().all(|f| f.divides(v))
     }
 
     // Whether an integer is a multiple of one.
     pub fn bars(&self, v: i64) -> bool
         ensures { result ≡ some (is_multiple (unsigned_abs v)) (fractions self.now) }
     {
-        any_divides(self.fractions(), v.unsigned_abs())
+        self.fractions().iter().any(|f| f.divides(v))
     }
 
     // The divisor that stands for the whole row, where it has just one.
     pub fn sole(&self) -> Option<Fraction>
         ensures { result ≡ sole_of (fractions self.now) }
     {
-        only(self.fractions())
+        match self.fractions() {
+            [f] => Some(*f),
+            _ => None,
+        }
     }
 
     // The order of rows: item by item, a row that ends first being lower.
+    #[tactic(auto, using(crate::proofs::Lawful::order_laws))]
     pub fn is_at_most(&self, other: &Row) -> bool
         ensures value { result ≡ at_most (fractions self.now) (fractions other.now) }
         ensures laws { OrderLaws }
     {
-        is_up_to(self.fractions(), other.fractions())
+        let (mine, others) = (self.fractions(), other.fractions());
+        for (f, g) in mine.iter().zip(others) {
+            match f.cmp(*g) {
+                Ordering::Less => return true,
+                Ordering::Greater => return false,
+                Ordering::Equal => {}
+            }
+        }
+        mine.len() <= others.len()
     }
 
     // Whether each of these divides one of the other row.
+    #[tactic(auto, using(crate::proofs::Lawful::required_laws))]
     pub fn divide_all(&self, other: &Row) -> bool
         ensures value { result ≡ divide_all (fractions self.now) (fractions other.now) }
         ensures laws { RequiredLaws }
     {
-        each_divides_one(self.fractions(), other.fractions())
+        let (divisors, multiples) = (self.fractions(), other.fractions());
+        divisors
+            .iter()
+            .all(|f| multiples.iter().any(|g| f.divides_divisor(*g)))
     }
 
     // Whether each of these is divided by one of the other row.
+    #[tactic(auto, using(crate::proofs::Lawful::barred_laws))]
     pub fn bars_no_more_than(&self, other: &Row) -> bool
         ensures value { result ≡ bars_no_more (fractions self.now) (fractions other.now) }
         ensures laws { BarredLaws }
     {
-        each_divided_by_one(self.fractions(), other.fractions())
+        let (multiples, divisors) = (self.fractions(), other.fractions());
+        multiples
+            .iter()
+            .all(|f| divisors.iter().any(|g| g.divides_divisor(*f)))
     }
 }

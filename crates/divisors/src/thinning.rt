@@ -1,9 +1,16 @@
 ghost use Rattle.std.specs.Prelude.{◌≡◌, ◌≤◌};
-ghost use Rattle.divisors.specs.Dividing.{thin_of};
+ghost use Rattle.divisors.specs.Dividing.{divided, thin_of};
 ghost use Rattle.divisors.specs.Rows.{held};
 
-use crate::questions::is_divided;
+use crate::fraction::Fraction;
 use crate::working::Working;
+
+// Whether another of a list divides a fraction.
+fn is_divided(ys: &[Fraction], x: Fraction) -> bool
+    ensures { result ≡ divided ys.now x }
+{
+    ys.iter().any(|y| y.divides_other(x))
+}
 
 impl Working {
     // Fractions that another of the list divides go.
