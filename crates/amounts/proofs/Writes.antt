@@ -1,7 +1,6 @@
 -- The texts of amounts, divisors and lists.
 use Rattle.std.proofs.Common.{◌≡◌, ℕ, ◌^◌, ◌<◌, ◌≤◌, eqb, List, [], ◌∷◌, ◌++◌, length, get_or, drop, ℤ, pos, negsuc, nat_abs, ◌<ℤ◌, decimal, refl, ap, ◌∙◌, arith}
-use Rattle.std.proofs.lemmas.List.{append-nil}
-use Rattle.std.proofs.lemmas.Bool.{cond-true, cond-false, eq-eqb, ne_eqb}
+use Rattle.std.proofs.lemmas.Bool.{cond-false, ne_eqb}
 use Rattle.std.proofs.lemmas.Fmt.{length_signed_le}
 use Rattle.std.proofs.lemmas.Int.{ints}
 use Rattle.std.specs.Fmt.{signed_decimal}
@@ -17,10 +16,6 @@ signed_short z h = length_signed_le 19 z (omega arith) h
 pub signed_minus : (z : ℤ) → z <ℤ pos 0 → signed_decimal z ≡ 45 ∷ decimal (nat_abs z)
 signed_minus (pos a) h = absurd (omega (arith, ints))
 signed_minus (negsuc a) h = refl
-
-pub whole_text : (f : Fraction) → f.q ≡ 1 → fraction_text f ≡ decimal f.p
-whole_text f e =
-    ap (λ (t : List ℕ). decimal f.p ++ t) (cond-true (eqb f.q 1) [] (47 ∷ decimal f.q) (eq-eqb f.q 1 e)) ∙ append-nil (decimal f.p)
 
 pub part_text : (f : Fraction) → (f.q ≡ 1 → ⊥) → fraction_text f ≡ decimal f.p ++ (47 ∷ decimal f.q)
 part_text f n = ap (λ (t : List ℕ). decimal f.p ++ t) (cond-false (eqb f.q 1) [] (47 ∷ decimal f.q) (ne_eqb f.q 1 n))

@@ -17,14 +17,7 @@ nat_order i a b = nat_le_is a b i
 pub int_order : ◌≡◌ {A = ℤ → ℤ → Bool} (partial_le (λ x y. Some (int_cmp x y))) le_z
 int_order i a b = int_le_is a b i
 
--- windows of unsigned and of signed numbers
-pub nat_window : (x y : Option ℕ) → is_window_of (partial_le (λ a b. Some (nat_cmp a b))) x y ≡ is_window_of nat_le x y
-nat_window x y = ap (λ (le : ℕ → ℕ → Bool). is_window_of le x y) nat_order
-
-pub int_window : (x y : Option ℤ) → is_window_of (partial_le (λ a b. Some (int_cmp a b))) x y ≡ is_window_of le_z x y
-int_window x y = ap (λ (le : ℤ → ℤ → Bool). is_window_of le x y) int_order
-
--- and as written
+-- windows as written
 module _ {W : Type 0} where
   pub nat_written : (value : W → Option ℕ) (x y : Option W) → window_of value (partial_le (λ a b. Some (nat_cmp a b))) x y ≡ window_of value nat_le x y
   nat_written value x y = ap (λ (le : ℕ → ℕ → Bool). window_of value le x y) nat_order
