@@ -28,10 +28,9 @@ impl Working {
     {
         let list = self.as_slice();
 
-        // Places, not elements: the pair of places is what is looked for.
-        for left in 0..list.len() {
-            for right in left + 1..list.len() {
-                if let Some(join) = list[left].checked_lcm(list[right]) {
+        for (left, x) in list.iter().enumerate() {
+            for (right, y) in list.iter().enumerate().skip(left + 1) {
+                if let Some(join) = x.checked_lcm(*y) {
                     return Some(Pair { left, right, join });
                 }
             }
@@ -59,11 +58,10 @@ impl Working {
     {
         let list = self.as_slice();
 
-        // Places, as above: a fraction does not strip itself.
-        for at in 0..list.len() {
-            for by in 0..list.len() {
+        for (at, x) in list.iter().enumerate() {
+            for (by, y) in list.iter().enumerate() {
                 if at != by {
-                    if let Some(left) = list[at].without_factors_of(list[by]) {
+                    if let Some(left) = x.without_factors_of(*y) {
                         return Some(Strip { at, by, left });
                     }
                 }

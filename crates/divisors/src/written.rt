@@ -47,7 +47,7 @@ pub(crate) fn folded_row(ws: &[Fraction]) -> Row
     work.row()
 }
 
-// The thinned row of divisors as written. Not one function with `folded_row`: the step between is the whole of it.
+// The thinned row of divisors as written. Not one function with `folded_row`: the bound, the step and each clause differ.
 pub(crate) fn thinned_row(ws: &[Fraction]) -> Row
     requires { (are_in_range ws.now ≡ true) × (length ws.now ≤ 6) }
     ensures thins { ThinOf ws.now (fractions result) }
@@ -66,7 +66,7 @@ pub(crate) fn is_folded(row: &Row) -> bool
     all_in_range(list) && *row == folded_row(list)
 }
 
-// Whether a row holds a thinned list: one that is in range and thins to itself. A closure in place of the row made again would be longer.
+// Whether a row holds a thinned list: one that is in range and thins to itself. Not one function with `is_folded`: a closure and its clauses would be longer than the line that they share.
 pub(crate) fn is_thinned(row: &Row) -> bool
     ensures { result ≡ is_thinned row.now }
 {
