@@ -4,8 +4,8 @@ ghost use Rattle.amounts.specs.Values.{next_of};
 
 use divisors::Fraction;
 
-// The largest step of a grid.
-const LARGEST: u64 = 0x7fff_ffff_ffff_ffff;
+// The largest numerator and denominator, and so the largest step of a grid.
+pub(crate) const LARGEST: u64 = 0x7fff_ffff_ffff_ffff;
 
 // The step of a rule's grid: its sole divisor where that is whole, else 1.
 pub(crate) fn step(sole: Option<Fraction>) -> u64

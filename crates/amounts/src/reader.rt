@@ -5,6 +5,7 @@ ghost use Rattle.std.specs.Prelude.{◌≡◌};
 
 use crate::amount::WrittenAmount;
 use crate::amount_leaf::{AmountLeaf, leaf_of};
+use crate::grid::LARGEST;
 use divisors::{Fraction, Row};
 use leaf::{Bounds, Fault, Reader, Refusal, has_flag};
 
@@ -13,9 +14,6 @@ const PLACES: u64 = 6;
 
 // The flags up to which a byte may be one.
 const FLAGS: u8 = 16;
-
-// The largest numerator and denominator.
-const LARGEST: u64 = 0x7fff_ffff_ffff_ffff;
 
 // Whether a byte is the flags of an amount leaf: no unknown bit, no sign without its bound.
 fn are_flags(flags: u8) -> bool

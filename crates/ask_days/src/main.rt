@@ -13,6 +13,7 @@ use std::io;
 use std::io::{BufWriter, Read, Write};
 
 // Writes what each line of the text comes to, and last how many came to what.
+// A loop in each program: one call for all would take a closure, and ask of its caller that this may be called.
 fn ask_all<W: Write>(text: &[u8], out: &mut W) -> io::Result<()> {
     let mut tally = Tally::default();
     for (k, line) in (1u64..).zip(Lines::of(text)) {

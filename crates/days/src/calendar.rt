@@ -46,7 +46,7 @@ fn year_start(year: u32) -> u32
     days
 }
 
-// The number of the day, or none where there is no such day.
+// The number of the day, or none where there is no such day. Three numbers and not a `Date`: so it is promised to its callers.
 pub fn day_number(year: u64, month: u64, day: u64) -> Option<u32>
     ensures value { result ≡ day_of year month day }
     ensures laws { CalendarStands }

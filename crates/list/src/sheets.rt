@@ -40,7 +40,7 @@ fn first_leaf<V: Copy, L: Leaf<V>>(bytes: &[u8]) -> Result<usize, Fault>
 }
 
 impl<'a, V: Copy, L: Leaf<V>> Leaves<'a, V, L> {
-    // Reads the leaf that starts at `at` and puts it into its place; its end, or what refused it.
+    // Reads the leaf that starts at `at`, by way of the place lent, and puts it into its place; its end, or what refused it.
     fn take_leaf(&mut self, bytes: &[u8], at: usize, place: &mut L) -> Result<usize, Fault>
         ensures table { SameTable self.old self.new }
         ensures within { IfOk result (λ e. (at < e) × (e ≤ length bytes.now)) }

@@ -10,7 +10,7 @@ fn place(text: &[u8], c: u8) -> Option<usize>
     text.iter().position(|b| *b == c)
 }
 
-// The place of the first byte `c`, or the length where there is none.
+// The place of the first byte `c`, or the length where there is none: a place that `front` and `behind` take.
 pub fn find(text: &[u8], c: u8) -> usize
     ensures value { result ≡ index_of c text.now }
     ensures within { result ≤ length text.now }
