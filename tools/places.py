@@ -9,7 +9,7 @@ SEARCHES = {
     "1": {
         "enums": r"^ *(pub(\(crate\))? )?enum ",
         "flags beside a change": r"fn .*&mut .*-> bool",
-        "places lent": r"(place|into|required|barred): &mut [A-Z]",
+        "places lent": r"(place|into|required|barred|answer): &mut [A-Z]",
         "numbers for refusals": r"=> [0-9]+,$",
         "no answer as a number": r"^ +text\.len\(\)$",
         "refusals that cannot come": r"unreachable\(\)|unwrap\(\)",

@@ -16,7 +16,7 @@ use Rattle.leaf.proofs.Ends.{Window as Within, bounds_end as bounds_within}
 use Rattle.leaf.specs.declared.bounds.Bounds.{Bounds}
 use Rattle.amounts.specs.declared.amount.WrittenAmount.{WrittenAmount}
 use Rattle.amounts.specs.Making.{amount_in}
-use Rattle.amounts.specs.Windows.{amount_is}
+use Rattle.amounts.specs.InRange.{amount_is}
 
 flags_end : (s : List ℕ) (i : ℕ) → Ends s i (flags_at s i)
 flags_end s i =

@@ -15,5 +15,5 @@ pub mod RulesLemmas
 pub mod Rows
 pub mod Read
 pub mod Endings
-pub mod Windows
+pub mod InRange
 pub mod Lengths

@@ -73,6 +73,7 @@ impl Leaf<i64> for AmountLeaf {
         b == KIND
     }
 
+    // In each kind, since each says besides what its leaf means.
     #[tactic(auto, using(crate::specs::Read::read_means))]
     fn read(sheet: &[u8], start: usize, place: &mut AmountLeaf) -> Result<usize, Fault>
         ensures reads { Fills (amounts.reading sheet.now start) place.old place.new result }

@@ -24,7 +24,7 @@ fn are_flags(flags: u8) -> bool
         && (has_flag(flags, 1) || !has_flag(flags, 3))
 }
 
-// The flags byte.
+// The flags byte: each kind has its own test of it.
 fn read_flags(reader: &mut Reader<'_>) -> Result<u8, Fault>
     ensures { Reads flags_at reader.old reader.new result }
 {
@@ -76,6 +76,7 @@ fn read_list(reader: &mut Reader<'_>) -> Result<Row, Fault>
         return Err(many);
     }
     let mut row = Row::empty();
+    // No more than six come, so none is refused here.
     for _ in 0..count {
         let f = read_fraction(reader)?;
         row.push(f).map_err(|_| many)?;

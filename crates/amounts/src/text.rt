@@ -9,7 +9,7 @@ use divisors::Fraction;
 use leaf::Fault;
 use texts::{Cursor, Line};
 
-// Each function writes behind the cursor; `short` says how long its text is at most.
+// Each function writes behind the cursor, by hand as those of `texts`; `short` says how long its text is at most.
 fn put_signed(out: &mut Cursor, z: i64)
     ensures put { Put out.old (signed_decimal z) out.new }
     ensures short { length (signed_decimal z) ≤ 20 }
@@ -83,7 +83,8 @@ impl Line for AmountLeaf {
 }
 
 impl AmountLeaf {
-    // The leaf's line and a line feed at the front of the buffer, whose rest stays; refusal 11 where it is under 600 bytes.
+    // The leaf's line and a line feed at the front of the buffer, whose rest stays; refusal 11 where it is under 600 bytes. The trait's call,
+    // for users that do not name `Line`.
     pub fn write_line(&self, buf: &mut [u8]) -> Result<usize, Fault>
         ensures { Texted (line_text self.now) buf.old buf.new result }
     {

@@ -3,6 +3,7 @@ ghost use Rattle.std.specs.Prelude.{◌≡◌};
 
 use amounts::WrittenAmount;
 use notation::signed;
+use questions::bound_of;
 
 // The amount that a text writes.
 fn amount_of(text: &[u8]) -> Option<WrittenAmount>
@@ -17,13 +18,10 @@ fn amount_of(text: &[u8]) -> Option<WrittenAmount>
 }
 
 // The bound that a text writes, absent where it is a star.
-pub(crate) fn bound_of(text: &[u8]) -> Option<Option<WrittenAmount>>
+pub(crate) fn amount_bound_of(text: &[u8]) -> Option<Option<WrittenAmount>>
     ensures { result ≡ bound_in text.now }
 {
-    match text {
-        [b'*'] => Some(None),
-        _ => Some(Some(amount_of(text)?)),
-    }
+    bound_of(text, amount_of(text))
 }
 
 // The value that a text writes, if it is a 64-bit amount.

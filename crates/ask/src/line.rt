@@ -3,7 +3,7 @@ ghost use Rattle.questions.specs.Outcomes.{said};
 ghost use Rattle.std.specs.Option.{option_map};
 ghost use Rattle.std.specs.Prelude.{◌≡◌, IfSome, Some};
 
-use crate::amount_text::{bound_of, value_of};
+use crate::amount_text::{amount_bound_of, value_of};
 use crate::wrong::Wrong;
 use amounts::{AmountLeaf, WrittenAmount};
 use divisors::Fraction;
@@ -58,8 +58,8 @@ pub(crate) fn ask_line(heap: Global, line: &[u8]) -> Result<bool, Objection<Wron
     ensures { IfSome (said result) (λ o. o ≡ line_outcome line.now) }
 {
     let fields = fields_of(line).ok_or(Wrong::Fields)?;
-    let minimum = bound_of(fields.minimum).ok_or(Wrong::Minimum)?;
-    let maximum = bound_of(fields.maximum).ok_or(Wrong::Maximum)?;
+    let minimum = amount_bound_of(fields.minimum).ok_or(Wrong::Minimum)?;
+    let maximum = amount_bound_of(fields.maximum).ok_or(Wrong::Maximum)?;
     let required = divisors(heap, fields.required)?.ok_or(Wrong::Required)?;
     let barred = divisors(heap, fields.barred)?.ok_or(Wrong::Barred)?;
     let v = value_of(fields.value).ok_or(Wrong::Value)?;

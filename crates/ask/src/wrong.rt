@@ -17,17 +17,18 @@ pub(crate) enum Wrong {
 
 impl fmt::Display for Wrong {
     fn fmt<W: fmt::Write>(&self, f: &mut fmt::Formatter<W>) -> fmt::Result {
-        match self {
-            Wrong::Fields => write!(f, "not five fields with a space between"),
-            Wrong::Minimum => write!(f, "the minimum is no amount"),
-            Wrong::Maximum => write!(f, "the maximum is no amount"),
-            Wrong::Required => write!(f, "the required list is no list of divisors"),
-            Wrong::Barred => write!(f, "the barred list is no list of divisors"),
-            Wrong::Value => write!(f, "the value is no 64-bit amount"),
-        }
+        f.write_str(match self {
+            Wrong::Fields => "not five fields with a space between",
+            Wrong::Minimum => "the minimum is no amount",
+            Wrong::Maximum => "the maximum is no amount",
+            Wrong::Required => "the required list is no list of divisors",
+            Wrong::Barred => "the barred list is no list of divisors",
+            Wrong::Value => "the value is no 64-bit amount",
+        })
     }
 }
 
+// In each program: of any M it would overlap with what a refusal gives.
 impl From<Wrong> for Objection<Wrong> {
     ghost from_gives = { λ w o. o ≡ Malformed w };
 

@@ -3,6 +3,7 @@ ghost use Rattle.std.specs.Prelude.{◌≡◌};
 
 use days::Date;
 use notation::number;
+use questions::bound_of;
 
 // Whether a text is ten bytes with a dash behind the fourth and the seventh.
 fn is_date_shape(text: &[u8]) -> bool
@@ -28,10 +29,7 @@ pub(crate) fn date_of(text: &[u8]) -> Option<Date>
 pub(crate) fn date_bound_of(text: &[u8]) -> Option<Option<Date>>
     ensures { result ≡ date_bound_in text.now }
 {
-    match text {
-        [b'*'] => Some(None),
-        _ => Some(Some(date_of(text)?)),
-    }
+    bound_of(text, date_of(text))
 }
 
 // A weekday more, which comes behind all those of the set.

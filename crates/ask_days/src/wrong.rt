@@ -16,16 +16,17 @@ pub(crate) enum Wrong {
 
 impl fmt::Display for Wrong {
     fn fmt<W: fmt::Write>(&self, f: &mut fmt::Formatter<W>) -> fmt::Result {
-        match self {
-            Wrong::Fields => write!(f, "not four fields with a space between"),
-            Wrong::Minimum => write!(f, "the minimum is no date"),
-            Wrong::Maximum => write!(f, "the maximum is no date"),
-            Wrong::Weekdays => write!(f, "the weekdays are no ascending digits from 1 to 7"),
-            Wrong::Value => write!(f, "the value is no date"),
-        }
+        f.write_str(match self {
+            Wrong::Fields => "not four fields with a space between",
+            Wrong::Minimum => "the minimum is no date",
+            Wrong::Maximum => "the maximum is no date",
+            Wrong::Weekdays => "the weekdays are no ascending digits from 1 to 7",
+            Wrong::Value => "the value is no date",
+        })
     }
 }
 
+// In each program: of any M it would overlap with what a refusal gives.
 impl From<Wrong> for Objection<Wrong> {
     ghost from_gives = { λ w o. o ≡ Malformed w };
 

@@ -34,6 +34,7 @@ fn month_start(is_leap: bool, month: u32) -> u32
     }
 }
 
+// The days of the years before it, by a `for`: of a chain's sum it is not proved that it fits.
 fn year_start(year: u32) -> u32
     requires { (2000 ≤ year) × (year ≤ 2200) }
     ensures value { result ≡ year_start (year - 2000) }
@@ -46,7 +47,7 @@ fn year_start(year: u32) -> u32
     days
 }
 
-// The number of the day, or none where there is no such day. Three numbers and not a `Date`: so it is promised to its callers.
+// The number of the day, or none where there is no such day. Three numbers, not a `Date`: a public signature, which stays.
 pub fn day_number(year: u64, month: u64, day: u64) -> Option<u32>
     ensures value { result ≡ day_of year month day }
     ensures laws { CalendarStands }

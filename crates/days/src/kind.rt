@@ -75,6 +75,7 @@ impl Leaf<u32> for DayLeaf {
         b == KIND
     }
 
+    // In each kind, since each says besides what its leaf means.
     #[tactic(auto, using(crate::proofs::Means::read_means))]
     fn read(sheet: &[u8], start: usize, place: &mut DayLeaf) -> Result<usize, Fault>
         ensures reads { Fills (days.reading sheet.now start) place.old place.new result }

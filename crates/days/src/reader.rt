@@ -9,7 +9,7 @@ use leaf::{Bounds, Fault, Reader, Refusal};
 // The flags up to which a byte may be one.
 const FLAGS: u8 = 4;
 
-// The flags byte.
+// The flags byte: each kind has its own test of it.
 fn read_flags(reader: &mut Reader<'_>) -> Result<u8, Fault>
     ensures { Reads flags_at reader.old reader.new result }
 {

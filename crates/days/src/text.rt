@@ -8,7 +8,7 @@ use crate::day_leaf::DayLeaf;
 use leaf::{Fault, has_flag};
 use texts::{Cursor, Line};
 
-// Each function writes behind the cursor; `short` says how long its text is at most.
+// Each function writes behind the cursor, by hand as those of `texts`; `short` says how long its text is at most.
 fn put_two_digits(out: &mut Cursor, n: u64)
     ensures { Put out.old (two_digits n) out.new }
 {
@@ -74,7 +74,8 @@ impl Line for DayLeaf {
 }
 
 impl DayLeaf {
-    // The leaf's line and a line feed at the front of the buffer, whose rest stays; refusal 11 where it is under 600 bytes.
+    // The leaf's line and a line feed at the front of the buffer, whose rest stays; refusal 11 where it is under 600 bytes. The trait's call,
+    // for users that do not name `Line`.
     pub fn write_line(&self, buf: &mut [u8]) -> Result<usize, Fault>
         ensures { Texted (line_text self.now) buf.old buf.new result }
     {

@@ -70,7 +70,7 @@ impl Working {
         None
     }
 
-    // The first fraction that another strips is stripped; false where there is none.
+    // The first fraction that another strips is stripped; false where there is none, as above.
     fn strip_once(&mut self) -> bool
         ensures row { MatchBool result ((t : Strip) × FirstStrip (held self.old) t × (held self.new ≡ stripped_by t (held self.old))) (NoStrip (held self.old) × (held self.new ≡ held self.old)) }
         ensures count { self.new.count ≤ self.old.count }
@@ -83,7 +83,7 @@ impl Working {
         true
     }
 
-    // One join, or else one strip; false where there is neither.
+    // One join, or else one strip; false where there is neither, as above.
     fn step(&mut self) -> bool
         ensures row { MatchBool result ((ys : List Fraction) → FoldsTo (held self.new) ys → FoldsTo (held self.old) ys) (FoldsTo (held self.old) (held self.new)) }
         ensures weight { MatchBool result (weight (held self.new) < weight (held self.old)) (0 ≤ 0) }

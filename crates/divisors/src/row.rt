@@ -112,7 +112,7 @@ impl Row {
             .all(|f| multiples.iter().any(|g| f.divides_divisor(*g)))
     }
 
-    // Whether each of these is divided by one of the other row.
+    // Whether each of these is divided by one of the other row: not `divide_all` turned, whose each and one stay where they are.
     #[tactic(auto, using(crate::proofs::Lawful::barred_laws))]
     pub fn bars_no_more_than(&self, other: &Row) -> bool
         ensures value { result ≡ bars_no_more (fractions self.now) (fractions other.now) }

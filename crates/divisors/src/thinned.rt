@@ -7,7 +7,8 @@ use crate::refusal::Refusal;
 use crate::row::Row;
 use crate::written::{check_list, is_thinned, thinned_row};
 
-// A thinned list of barred divisors. Not one generic type with `Folded`: a trait, two impls of it and two aliases would be longer than `from_row`, `row` and the call of `check_list`, which are all that they share.
+// A thinned list of barred divisors. Not one generic type with `Folded`: a trait, two impls of it and two aliases would be longer than
+// `from_row`, `row` and the call of `check_list`, which are all that they share.
 #[derive(Clone, Copy)]
 pub struct Thinned {
     row: Row,

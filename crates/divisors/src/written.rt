@@ -66,7 +66,8 @@ pub(crate) fn is_folded(row: &Row) -> bool
     all_in_range(list) && *row == folded_row(list)
 }
 
-// Whether a row holds a thinned list: one that is in range and thins to itself. Not one function with `is_folded`: a closure and its clauses would be longer than the line that they share.
+// Whether a row holds a thinned list: one that is in range and thins to itself. Not one function with `is_folded`: a closure and its clauses
+// would be longer than the line that they share.
 pub(crate) fn is_thinned(row: &Row) -> bool
     ensures { result ≡ is_thinned row.now }
 {

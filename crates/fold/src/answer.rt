@@ -18,15 +18,15 @@ pub(crate) enum Fault {
 
 impl fmt::Display for Fault {
     fn fmt<W: fmt::Write>(&self, f: &mut fmt::Formatter<W>) -> fmt::Result {
-        match self {
-            Fault::NotTwoLists => write!(f, "not two lists with a space between"),
-            Fault::NoRequiredList => write!(f, "the required list is no list of divisors"),
-            Fault::NoBarredList => write!(f, "the barred list is no list of divisors"),
-        }
+        f.write_str(match self {
+            Fault::NotTwoLists => "not two lists with a space between",
+            Fault::NoRequiredList => "the required list is no list of divisors",
+            Fault::NoBarredList => "the barred list is no list of divisors",
+        })
     }
 }
 
-// Why a line has no lists.
+// Why a line has no lists. Not that of questions: a `From` for the refusals of divisors has to stand where the type does.
 #[derive(Drop)]
 pub(crate) enum Objection {
     Refused(Refusal),

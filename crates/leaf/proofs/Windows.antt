@@ -2,7 +2,6 @@
 use Rattle.std.proofs.Common.{◌≡◌, ℕ, Bool, ℤ, Some, Option, nat_le, ap, arith}
 use Rattle.std.specs.Int.Signed.{le_z}
 use Rattle.std.specs.Ordering.{int_cmp, nat_cmp, partial_le}
-use Rattle.leaf.specs.Kind.{is_window_of}
 use Rattle.leaf.specs.Windows.{window_of}
 
 nat_le_is : (a b : ℕ) → partial_le (λ x y. Some (nat_cmp x y)) a b ≡ nat_le a b

@@ -22,7 +22,7 @@ impl<V: Copy + PartialOrd> Bounds<V> {
     }
 }
 
-// Of two minimums, an absent one being lowest. Not one function with `is_high`: a closure that turns the order would be longer than either.
+// Of two minimums, an absent one being lowest. Not one function with `is_high`: a closure that turns the order would be longer.
 pub(crate) fn is_low<V: Copy, L: Leaf<V>>(a: Option<V>, b: Option<V>) -> bool
     ensures { result ≡ ext_le L.kind.le (from a) (from b) }
 {

@@ -51,7 +51,8 @@ pub trait Leaf<V: Copy>: Copy {
     fn is_kind(b: u8) -> bool
         ensures { result ≡ kind.kind_byte b };
 
-    // The leaf that starts there, into the place lent, which a refusal leaves as it was; the answer is where it ends. A place and not a value, by the project's rule: leaves are handed on in places of fixed memory.
+    // The leaf that starts there, into the place lent, which a refusal leaves as it was; the answer is where it ends. Into a place and not as a
+    // value: the project's rule for reading a leaf.
     fn read(sheet: &[u8], start: usize, place: &mut Self) -> Result<usize, Fault>
         ensures { Fills (kind.reading sheet.now start) place.old place.new result };
 

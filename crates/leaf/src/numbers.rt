@@ -9,7 +9,7 @@ use crate::sheet::rest_of;
 // The most bytes of a number.
 const MOST: u32 = 10;
 
-// The number whose first byte stands at `start`, and the place past its last byte.
+// The number whose first byte stands at `start`, and the place past its last byte: a public call, which stays beside the reader.
 #[tactic(auto, using(crate::proofs::Beginnings::numbers_stand), unfolding(crate::specs::Numbers::number_at))]
 pub fn number(sheet: &[u8], start: usize) -> Result<(u64, usize), Fault>
     ensures within { IfOk result (λ p. (start < p.1) × (p.1 ≤ length sheet.now)) }

@@ -5,7 +5,7 @@ use crate::fault::{Fault, Refusal};
 use crate::numbers::number;
 use crate::sheet::rest_of;
 
-// A sheet, and the byte where the next part starts.
+// A sheet, and the byte where the next part starts. After a refusal it may stand anywhere.
 #[derive(Clone, Copy)]
 pub struct Reader<'a> {
     pub sheet: &'a [u8],

@@ -1,7 +1,7 @@
 ghost use Rattle.leaf.specs.Numbers.{has_bit};
 ghost use Rattle.std.specs.Prelude.{◌≡◌, drop};
 
-// The part of the sheet from `start` on, empty where `start` lies past its end.
+// The part of the sheet from `start` on, empty where `start` lies past its end: a public call, which stays beside the reader.
 pub fn rest_of<'a>(sheet: &'a [u8], start: usize) -> &'a [u8]
     ensures { result.now ≡ drop start sheet.now }
 {

@@ -35,6 +35,10 @@ module _ {V L : Type 0} (k : Kind V L) (w : Laws k) where
   leads_row : (cs : List (Call V L)) (l : Leaves V L) → Leads k cs l → Rowed k w (held_of l)
   leads_row cs l d = subst (Rowed k w) (sym d.held) (run_row k w (places_of l) cs [] (tt, tt) d.allowed)
 
+  -- every run leads to a sound list
+  pub leads_sound : (cs : List (Call V L)) (l : Leaves V L) → Leads k cs l → Sound k l
+  leads_sound cs l d = sound l (leads_row cs l d) d.settled
+
   module _ (l l' : Leaves V L) (c : Call V L) (same : places_of l' ≡ places_of l) (does : held_of l' ≡ after k (places_of l) (held_of l) c) where
     keeps_settled : Unsettles l l' → Settled k l → Settled k l'
     keeps_settled u s f = let q = u f in ap (reading k) q.1 ∙ s q.0 ∙ sym q.1

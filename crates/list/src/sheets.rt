@@ -53,7 +53,8 @@ impl<'a, V: Copy, L: Leaf<V>> Leaves<'a, V, L> {
         Ok(end)
     }
 
-    // Takes the leaves of a sheet in turn, each told in the answer, up to its end or what stops it.
+    // Takes the leaves of a sheet in turn, up to its end or what stops it. Into the answer lent, so that what was told before a refusal stays
+    // told and `?` can end it.
     fn feed(&mut self, bytes: &[u8], answer: &mut SheetAnswer) -> Result<(), Fault>
         requires { (answer.old.accepted ≡ 0) × (answer.old.start ≡ 0) }
         ensures table { SameTable self.old self.new }

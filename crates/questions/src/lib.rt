@@ -2,7 +2,9 @@
 #![tactic(auto)]
 
 mod answer;
+mod bound;
 mod counts;
 
 pub use crate::answer::Objection;
+pub use crate::bound::bound_of;
 pub use crate::counts::Tally;

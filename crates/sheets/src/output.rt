@@ -17,15 +17,25 @@ pub struct Printed {
     pub text: Vec<u8>,
 }
 
-// Takes the sheet into a new list in the table: the lines then stand in front in it, and how many they are comes beside the list's answer.
-fn take_sheet<V: Copy, L: Leaf<V>>(table: &mut [L], sheet: &[u8]) -> (SheetAnswer, usize)
-    ensures within { result.1 ≤ length table.new }
-    ensures answer { Tells result.0 (sheet_outcome L.kind (length table.old) sheet.now []) }
-    ensures promised { Promised L.kind (length table.old) (call-sheet sheet.now ∷ []) (take result.1 table.new) }
+// How many lines a sheet came to, and the list's answer.
+#[derive(Clone, Copy)]
+struct Taken {
+    count: usize,
+    answer: SheetAnswer,
+}
+
+// Takes the sheet into a new list in the table: the lines then stand in front in it.
+fn take_sheet<V: Copy, L: Leaf<V>>(table: &mut [L], sheet: &[u8]) -> Taken
+    ensures within { result.count ≤ length table.new }
+    ensures answer { Tells result.answer (sheet_outcome L.kind (length table.old) sheet.now []) }
+    ensures promised { Promised L.kind (length table.old) (call-sheet sheet.now ∷ []) (take result.count table.new) }
 {
     let mut list = Leaves::open(table);
     let answer = list.sheet(sheet);
-    (answer, list.count())
+    Taken {
+        count: list.count(),
+        answer,
+    }
 }
 
 // What refused the sheet, if anything did, behind what is there.
@@ -46,7 +56,7 @@ pub(crate) fn output_of<V: Copy, L: Leaf<V> + Line>(
 ) -> Result<Printed, AllocError>
     ensures { IfOk result (λ p. Prints L.kind L.Line.text (length table.old) sheet.now p) }
 {
-    let (answer, count) = take_sheet(table, sheet);
+    let Taken { count, answer } = take_sheet(table, sheet);
     let mut text = Vec::new(heap);
     append_lines(&mut text, &table[..count])?;
     append_stop(&mut text, answer.fault)?;

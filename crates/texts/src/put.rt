@@ -13,8 +13,8 @@ pub fn has_room(size: usize) -> bool
     size >= ROOM
 }
 
-// Each function writes at `at`, as far as there is room, and answers where its text ends. By hand, not by Display: std says what a `write!`
-// wrote where it answers Ok, and not that it does.
+// Each function writes at `at`, as far as there is room, and answers where its text ends: public calls, which stay beside the cursor. By
+// hand, not by Display: std says what a `write!` wrote where it answers Ok, but not that it answers Ok.
 pub fn put_byte(buf: &mut [u8], at: usize, b: u8) -> usize
     ensures { Wrote buf.old at (b ∷ []) buf.new result }
 {

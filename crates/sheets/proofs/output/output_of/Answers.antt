@@ -6,7 +6,7 @@ use Rattle.sheets.proofs.output.output_of.Goals as goal
 pub returns : goal.returns
 returns g c =
     let taken = c.take_sheet-count.ensures in
-    let shown = take c.take_sheet-count.result.1 c.take_sheet-count.new.table in
+    let shown = take c.take_sheet-count.result.count c.take_sheet-count.new.table in
     let written : vec_items c.append_lines.new.out ≡ vec_items c.new-text.result ++ together g.L.Line.text shown = search rules in
     record {
       answer = taken.answer;

@@ -6,7 +6,7 @@ use Rattle.amounts.specs.Leaves.{leaf_of}
 use Rattle.amounts.specs.Making.{after, amount_in, window_of}
 use Rattle.amounts.specs.Meaning.{Means, value_of}
 use Rattle.divisors.specs.Written.{refusal_of_both}
-use Rattle.amounts.specs.Windows.{amount_is, not_refused}
+use Rattle.amounts.specs.InRange.{amount_is, not_refused}
 use Rattle.amounts.specs.Amounts.{amounts}
 use Rattle.leaf.proofs.Made.{window_made}
 use Rattle.leaf.proofs.Windows.{int_written}
