@@ -33,8 +33,8 @@ fn byte_of(high: u8, low: u8) -> Option<u8>
 pub fn read_hex(heap: Global, text: &[u8]) -> Result<Option<Vec<u8>>, AllocError>
     ensures { IfOk result (λ o. option_map vec_items o ≡ hex_of text.now) }
 {
-    let mut bytes = Vec::new(heap);
     let mut rest = text;
+    let mut bytes = Vec::new(heap);
     while let [first, behind @ ..] = rest {
         if *first == b' ' {
             rest = behind;
