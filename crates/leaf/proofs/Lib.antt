@@ -7,3 +7,5 @@ pub mod Hulls
 pub mod Windows
 pub mod Ends
 pub mod Made
+pub mod Rows
+pub mod Judging
