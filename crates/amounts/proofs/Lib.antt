@@ -2,3 +2,6 @@ pub mod Snaps
 pub mod Listing
 pub mod Writes
 pub mod Works
+pub mod Fields
+pub mod Standing
+pub mod Grammar

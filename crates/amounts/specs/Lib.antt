@@ -4,6 +4,7 @@ pub mod Leaves
 pub mod Reading
 pub mod Making
 pub mod Amounts
+pub mod Grammar
 pub mod Meaning
 pub mod Text
 pub mod Worked

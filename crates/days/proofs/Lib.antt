@@ -1,2 +1,4 @@
 pub mod Texts
 pub mod Means
+pub mod Fields
+pub mod Grammar

@@ -4,6 +4,7 @@ pub mod Leaves
 pub mod Making
 pub mod Reading
 pub mod Days
+pub mod Grammar
 pub mod Text
 pub mod Meaning
 pub mod Shows

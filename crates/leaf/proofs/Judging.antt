@@ -5,7 +5,7 @@ use Rattle.std.proofs.lemmas.Bool.{cond-true, cond-false, cases_Bool, true≢fal
 use Rattle.std.proofs.lemmas.List.{append_assoc, length-append, take-append-drop}
 use Rattle.leaf.specs.Faults.{Answer, Refused, found, refused, next, at_byte}
 use Rattle.leaf.specs.Encoding.{Written, Bytes, encode}
-use Rattle.leaf.specs.Fields.{Shape, byte, number, Fields, Stands, Complete, over, more, EndsEarly, BadNumber, Unfit}
+use Rattle.leaf.specs.Fields.{Shape, byte, number, Fields, Stands, Complete, over, more, EndsEarly, BadNumber, Unfit, Reached, here, past}
 use Rattle.leaf.specs.Layouts.{Layout, spelled, spelled_leaf, is_of_field, bytes_of, LeafStands, OneAnswer, LeafJudged, LeafGrammar}
 use Rattle.leaf.proofs.Writing.{found_refused}
 use Rattle.leaf.proofs.Encodes.{one_to_one}
@@ -28,6 +28,14 @@ Row s at (n ∷ ns) end = (size : ℕ) × Written (drop at s) n size × Row s (a
 abbrev pub AllBelow : List ℕ → Type 0
 AllBelow [] = Unit {0}
 AllBelow (n ∷ ns) = (n < 2 ^ 64) × AllBelow ns
+
+pub both_below : (xs ys : List ℕ) → AllBelow xs → AllBelow ys → AllBelow (xs ++ ys)
+both_below [] ys h g = g
+both_below (x ∷ xs) ys h g = (h.0, both_below xs ys h.1 g)
+
+pub row_parts : (s : List ℕ) (xs ys : List ℕ) (at end : ℕ) → Row s at (xs ++ ys) end → (mid : ℕ) × Row s at xs mid × Row s mid ys end
+row_parts s [] ys at end h = (at, refl, h)
+row_parts s (x ∷ xs) ys at end (size, w, h) = let r = row_parts s xs ys (at + size) end h in (r.0, (size, w, r.1), r.2)
 
 -- in bytes: the numbers stand there exactly where their encodings do
 written_within : (bytes : List ℕ) (n size : ℕ) → Written bytes n size → size ≤ length bytes
@@ -90,6 +98,23 @@ Numeric k (r ∷ rs) = (k.shape r ≡ number) × Numeric k rs
 numeric_both : {Role : Type 0} (k : Fields Role) (xs ys : List Role) → Numeric k xs → Numeric k ys → Numeric k (xs ++ ys)
 numeric_both k [] ys h g = g
 numeric_both k (x ∷ xs) ys h g = (h.0, numeric_both k xs ys h.1 g)
+
+-- behind the flags only numbers are due
+module _ {Role : Type 0} (k : Fields Role) (s : List ℕ) (brought : (r : Role) (p n : ℕ) → Numeric k (k.brings r p n)) where
+  numeric_reached : (rs : List Role) (at p : ℕ) (q : Role) → Numeric k rs → Reached k s rs at q p → k.shape q ≡ number
+  numeric_reached [] at p q h c = elim c [ ]
+  numeric_reached (r ∷ rs) at p q h here = h.0
+  numeric_reached (r ∷ rs) at p q h (past {n = n} {size = size} w x) =
+      numeric_reached (k.brings r at n ++ rs) (at + size) p q (numeric_both k (k.brings r at n) rs (brought r at n) h.1) x
+
+  byte_number : byte ≡ number → ⊥
+  byte_number e = let q : ◌≡◌ {A = ℕ} 0 1 = cc in omega (arith, q)
+
+  -- the flags are due at the leaf's first byte alone
+  pub only_first : (f q : Role) (at p : ℕ) → k.shape q ≡ byte → Reached k s (f ∷ []) at q p → p ≡ at
+  only_first f q at p h here = refl
+  only_first f q at p h (past {n = n} {size = size} w x) =
+      absurd (byte_number (sym h ∙ numeric_reached (k.brings f at n ++ []) (at + size) p q (numeric_both k (k.brings f at n) [] (brought f at n) tt) x))
 
 module _ {Role W L : Type 0} (y : Layout Role W L) (s : List ℕ) (at : ℕ) where
   abbrev due : List Role

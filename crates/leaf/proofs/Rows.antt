@@ -1,12 +1,13 @@
 -- Fields that are read in turn: each answer comes on its condition.
 use Rattle.std.specs.Prelude.{◌≡◌, ℕ, ◌+◌, true, false, cond, ◌⊎◌, List, [], ◌∷◌, ◌++◌, length, drop, refl}
-use Rattle.std.proofs.Common.{sym, ap, ◌∙◌, subst, inl, inr}
+use Rattle.std.proofs.Common.{sym, ap, ◌∙◌, subst, inl, inr, ⊎_elim}
 use Rattle.std.proofs.lemmas.Bool.{cond-true, cond-false, cases_Bool}
 use Rattle.std.proofs.lemmas.List.{append-nil}
 use Rattle.leaf.specs.Faults.{Answer, Refused, found, refused, next, at_byte}
 use Rattle.leaf.specs.Numbers.{number_at}
 use Rattle.leaf.specs.Reading.{byte_in}
-use Rattle.leaf.specs.Fields.{Shape, byte, number, Fields, Stands, Ends, Misspelt, shape_at, field_at, InOrder, Complete, over, more, Reached, here, past, EndsEarly, BadNumber, Unfit}
+use Rattle.leaf.specs.Encoding.{Written}
+use Rattle.leaf.specs.Fields.{Shape, byte, number, Fields, Stands, Ends, Misspelt, shape_at, field_at, InOrder, Complete, over, more, Reached, here, past, EndsEarly, BadNumber, NumberDue, Unfit}
 use Rattle.leaf.proofs.Writing.{one_of, finds_it, cuts_it, bars_it, found_refused}
 
 -- what is read of a shape, by what stands there
@@ -52,6 +53,18 @@ module _ {Role : Type 0} (k : Fields Role) (s : List ℕ) where
 
   pub field_bad : (r : Role) (at : ℕ) → Misspelt (k.shape r) (drop at s) → field_at k s r at ≡ refused (at_byte 3 at)
   field_bad r at c = ap (on_field r at) (shape_bad (k.shape r) s at c)
+
+  -- what is read of a field may stand in it
+  field_sound : (r : Role) (at n e : ℕ) → field_at k s r at ≡ found n e → k.fits r n ≡ true
+  field_sound r at n e = by (shape_at (k.shape r) s at)
+    where
+      by : (a : Answer ℕ) → on_field r at a ≡ found n e → k.fits r n ≡ true
+      by (refused f) h = absurd (found_refused (sym h))
+      by (found m z) h =
+          ⊎_elim
+          (λ t. let q = sym (cond-true (k.fits r m) (found m z) (refused (at_byte (k.refusal r) (k.named r at))) t) ∙ h in let i : m ≡ n = cc in subst (λ x. k.fits r x ≡ true) i t)
+          (λ t. absurd (found_refused (sym h ∙ cond-false (k.fits r m) (found m z) (refused (at_byte (k.refusal r) (k.named r at))) t)))
+          (cases_Bool (k.fits r m))
 
   -- a number before those that follow
   abbrev pub before : ℕ → Answer (List ℕ) → Answer (List ℕ)
@@ -199,13 +212,25 @@ module _ {Role : Type 0} (k : Fields Role) (s : List ℕ) (first : List Role) (s
   Halted f = Runs k s first start (refused f)
 
   -- one field more
-  pub walks : (ns : List ℕ) (r : Role) (rs : List Role) (at : ℕ) → Walked ns (r ∷ rs) at → Holds (λ n e. Walked (ns ++ n ∷ []) (k.brings r at n ++ rs) e) Halted (field_at k s r at)
+  pub walks : (ns : List ℕ) (r : Role) (rs : List Role) (at : ℕ) → Walked ns (r ∷ rs) at → Holds (λ n e. (k.fits r n ≡ true) × Walked (ns ++ n ∷ []) (k.brings r at n ++ rs) e) Halted (field_at k s r at)
   walks ns r rs at w = by (field_at k s r at) refl
     where
-      by : (a : Answer ℕ) → field_at k s r at ≡ a → Holds (λ n e. Walked (ns ++ n ∷ []) (k.brings r at n ++ rs) e) Halted a
-      by (found n e) p = λ b x. subst (Runs k s first start) (afters_before ns n b) (w (before k s n b) (on p x refl))
+      by : (a : Answer ℕ) → field_at k s r at ≡ a → Holds (λ n e. (k.fits r n ≡ true) × Walked (ns ++ n ∷ []) (k.brings r at n ++ rs) e) Halted a
+      by (found n e) p = (field_sound k s r at n e p, λ b x. subst (Runs k s first start) (afters_before ns n b) (w (before k s n b) (on p x refl)))
       by (refused f) p = subst (Runs k s first start) (afters_refused ns f) (w (refused f) (stop p refl))
 
   -- nothing is due any more
   pub arrives : (ns : List ℕ) (at : ℕ) → Walked ns [] at → Runs k s first start (found ns at)
   arrives ns at w = subst (Runs k s first start) (afters_found ns [] at ∙ ap (λ (xs : List ℕ). found xs at) (append-nil ns)) (w (found [] at) (done refl))
+
+-- a field by what stands in it, whatever the kind
+module _ {Role : Type 0} (k : Fields Role) (s : List ℕ) where
+  pub number_read : (r : Role) (at n size : ℕ) → k.shape r ≡ number → Written (drop at s) n size → k.fits r n ≡ true → field_at k s r at ≡ found n (at + size)
+  number_read r at n size h w f = field_fits k s r at n size (record { stands = subst (λ z. Stands z (drop at s) n size) (sym h) w; fits = f })
+
+  module _ (rs : List Role) (at : ℕ) where
+    pub due_at : (q : Role) (p place n size : ℕ) → p ≡ place → Reached k s rs at q place → Written (drop place s) n size → NumberDue k s rs at q p n
+    due_at q p place n size e r w = record { reached = subst (Reached k s rs at q) (sym e) r; size = size; stands = subst (λ (z : ℕ). Written (drop z s) n size) (sym e) w }
+
+    pub unfit_at : (q : Role) (p n size : ℕ) → Reached k s rs at q p → Stands (k.shape q) (drop p s) n size → k.fits q n ≡ false → Unfit k s rs at (k.refusal q) (k.named q p)
+    unfit_at q p n size r w u = record { field = q; place = p; value = n; size = size; reached = r; stands = w; unfit = u; refusal_is = refl; named_is = refl }

@@ -80,3 +80,9 @@ module _ {Role : Type 0} (k : Fields Role) (s : List ℕ) where
       pub unfit : k.fits field value ≡ false
       pub refusal_is : refusal ≡ k.refusal field
       pub named_is : named ≡ k.named field place
+
+    -- all is in order up to the field q, which is due at p, and there the number n stands
+    pub record NumberDue (q : Role) (p n : ℕ) : Type 0 where
+      pub reached : Reached rs at q p
+      pub size : ℕ
+      pub stands : Written (drop p s) n size
