@@ -5,3 +5,4 @@ pub mod Works
 pub mod Fields
 pub mod Standing
 pub mod Grammar
+pub mod Making

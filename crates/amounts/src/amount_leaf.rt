@@ -1,6 +1,6 @@
 ghost use Rattle.amounts.specs.Amounts.{amounts};
 ghost use Rattle.amounts.specs.Leaves.{leaf_of};
-ghost use Rattle.amounts.specs.Making.{after, made_of};
+ghost use Rattle.amounts.specs.Making.{MakerJudged, after, made_of};
 ghost use Rattle.amounts.specs.Meaning.{Means, value_of};
 ghost use Rattle.amounts.specs.Worked.{WorkedLeaves};
 ghost use Rattle.divisors.specs.Written.{refusal_of, refusal_of_both};
@@ -50,6 +50,7 @@ pub(crate) fn leaf_of(bounds: Bounds<i64>, required: &[Fraction], barred: &[Frac
 impl AmountLeaf {
     // The leaf of bounds and divisors as written. Refused are, in this order and naming no byte: 5 a part of a divisor, 6 the number of
     // divisors, 7 an amount, 8 a minimum above the maximum.
+    #[tactic(auto, using(crate::proofs::Making::maker_judged))]
     pub fn new(
         minimum: Option<WrittenAmount>,
         maximum: Option<WrittenAmount>,
@@ -59,6 +60,7 @@ impl AmountLeaf {
         ensures value { told result ≡ made_of minimum maximum required.now barred.now }
         ensures sound { IfOk result (λ a. Lawful amounts a) }
         ensures means { IfOk result (λ a. Means (value_of minimum) (value_of maximum) required.now barred.now a) }
+        ensures judged { MakerJudged }
         ensures worked { OnOk result (WorkedLeaves) }
     {
         check_divisors(required, barred)?;

@@ -1,4 +1,5 @@
 ghost use Rattle.amounts.specs.Amounts.{amounts};
+ghost use Rattle.amounts.specs.Grammar.{AmountsStand};
 ghost use Rattle.amounts.specs.Meaning.{ReadMeans};
 ghost use Rattle.leaf.specs.Faults.{Fills};
 ghost use Rattle.std.specs.Prelude.{◌≡◌};
@@ -74,9 +75,10 @@ impl Leaf<i64> for AmountLeaf {
     }
 
     // In each kind, since each says besides what its leaf means.
-    #[tactic(auto, using(crate::specs::Read::read_means))]
+    #[tactic(auto, using(crate::specs::Read::read_means, crate::proofs::Grammar::amounts_stand))]
     fn read(sheet: &[u8], start: usize, place: &mut AmountLeaf) -> Result<usize, Fault>
         ensures reads { Fills (amounts.reading sheet.now start) place.old place.new result }
+        ensures grammar { AmountsStand }
         ensures means { ReadMeans }
     {
         let mut reader = Reader { sheet, at: start };

@@ -2,3 +2,4 @@ pub mod Texts
 pub mod Means
 pub mod Fields
 pub mod Grammar
+pub mod Making

@@ -1,5 +1,5 @@
 ghost use Rattle.days.specs.Days.{days};
-ghost use Rattle.days.specs.Making.{made_of};
+ghost use Rattle.days.specs.Making.{MakerJudged, made_of};
 ghost use Rattle.days.specs.Meaning.{Means, value_of};
 ghost use Rattle.leaf.specs.Faults.{told};
 ghost use Rattle.leaf.specs.Kind.{Lawful};
@@ -19,10 +19,12 @@ pub struct DayLeaf {
 impl DayLeaf {
     // The leaf of these bounds and weekdays. Refused are, in this order and naming no byte: 7 a date that is none, 8 a minimum above the
     // maximum, 9 the weekday set.
+    #[tactic(auto, using(crate::proofs::Making::maker_judged))]
     pub fn new(minimum: Option<Date>, maximum: Option<Date>, set: u64) -> Result<DayLeaf, Fault>
         ensures value { told result ≡ made_of minimum maximum set }
         ensures sound { IfOk result (λ a. Lawful days a) }
         ensures means { IfOk result (λ a. Means (value_of minimum) (value_of maximum) set a) }
+        ensures judged { MakerJudged }
     {
         let bounds = Bounds::of_written(minimum, maximum)?;
         if !is_set(set) {

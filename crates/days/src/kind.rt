@@ -1,4 +1,5 @@
 ghost use Rattle.days.specs.Days.{days};
+ghost use Rattle.days.specs.Grammar.{DaysStand};
 ghost use Rattle.days.specs.Meaning.{ReadMeans};
 ghost use Rattle.leaf.specs.Faults.{Fills};
 ghost use Rattle.std.specs.Prelude.{◌≡◌};
@@ -76,9 +77,10 @@ impl Leaf<u32> for DayLeaf {
     }
 
     // In each kind, since each says besides what its leaf means.
-    #[tactic(auto, using(crate::proofs::Means::read_means))]
+    #[tactic(auto, using(crate::proofs::Means::read_means, crate::proofs::Grammar::days_stand))]
     fn read(sheet: &[u8], start: usize, place: &mut DayLeaf) -> Result<usize, Fault>
         ensures reads { Fills (days.reading sheet.now start) place.old place.new result }
+        ensures grammar { DaysStand }
         ensures means { ReadMeans }
     {
         let mut reader = Reader { sheet, at: start };

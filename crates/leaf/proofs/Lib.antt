@@ -9,3 +9,4 @@ pub mod Ends
 pub mod Made
 pub mod Rows
 pub mod Judging
+pub mod Deciding

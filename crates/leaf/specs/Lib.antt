@@ -6,3 +6,4 @@ pub mod Reading
 pub mod Fields
 pub mod Layouts
 pub mod Windows
+pub mod Tests

@@ -1,5 +1,6 @@
 ghost use Rattle.leaf.specs.Faults.{Answer, told};
 ghost use Rattle.leaf.specs.Reading.{Reads};
+ghost use Rattle.leaf.specs.Tests.{WindowsJudged};
 ghost use Rattle.leaf.specs.Windows.{bound, bound_at, bounds_at, window_of};
 ghost use Rattle.std.specs.Ordering.{partial_le};
 ghost use Rattle.std.specs.Prelude.{◌≡◌, ℕ, Bool, List, Option};
@@ -56,11 +57,13 @@ fn read_bound<W: WrittenBound>(
 
 impl<V: Copy + PartialOrd> Bounds<V> {
     // The window of bounds as written. Refused are, in this order and naming no byte: 7 a bound that is no value, 8 a minimum above the maximum.
+    #[tactic(auto, using(crate::proofs::Deciding::windows_judged))]
     pub fn of_written<W: WrittenBound<Value = V>>(
         minimum: Option<W>,
         maximum: Option<W>,
     ) -> Result<Bounds<V>, Fault>
-        ensures { told result ≡ window_of W.value_of (partial_le V.partial_cmp) minimum maximum }
+        ensures value { told result ≡ window_of W.value_of (partial_le V.partial_cmp) minimum maximum }
+        ensures judged { WindowsJudged W.value_of (partial_le V.partial_cmp) }
     {
         let bounds = Bounds {
             minimum: bound_of(minimum)?,

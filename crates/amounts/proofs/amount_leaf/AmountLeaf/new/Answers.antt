@@ -10,6 +10,7 @@ use Rattle.amounts.specs.InRange.{amount_is, not_refused}
 use Rattle.amounts.specs.Amounts.{amounts}
 use Rattle.leaf.proofs.Made.{window_made}
 use Rattle.leaf.proofs.Windows.{int_written}
+use Rattle.amounts.proofs.Making.{maker_judged}
 use Rattle.amounts.proofs.Works.{worked_leaves}
 use Rattle.amounts.proofs.amount_leaf.AmountLeaf.new.Goals as goal
 
@@ -20,7 +21,7 @@ returns c =
     let b = c.in_ok-bounds.bounds in
     let a = c.leaf_of.result in
     let none = not_refused (refusal_of_both ws us) c.in_ok-check_divisors.ensures in
-    let q = c.in_ok-bounds.ensures ∙ int_written amount_in c.args.minimum c.args.maximum in
+    let q = c.in_ok-bounds.ensures.value ∙ int_written amount_in c.args.minimum c.args.maximum in
     let w = window_made amounts amount_in (λ x z e. amount_is x.negative x.magnitude z e) c.args.minimum c.args.maximum b q in
     let leaf : Bounds ℤ → Result AmountLeaf Refused = λ x. Ok (leaf_of x.minimum x.maximum ws us) in
     record {
@@ -32,11 +33,12 @@ returns c =
       means =
           subst (λ (h : Option ℤ). Means (value_of c.args.minimum) h ws us a) w.maximum
           (subst (λ (l : Option ℤ). Means l b.maximum ws us a) w.minimum c.leaf_of.ensures.means);
+      judged = maker_judged;
       worked = worked_leaves;
     }
 
 pub returns-in_err-bounds-clause-value : goal.returns-in_err-bounds-clause-value
 returns-in_err-bounds-clause-value c =
-    let q = c.in_err-bounds.ensures ∙ int_written amount_in c.args.minimum c.args.maximum in
+    let q = c.in_err-bounds.ensures.value ∙ int_written amount_in c.args.minimum c.args.maximum in
     let none = not_refused (refusal_of_both c.args.required.now c.args.barred.now) c.in_ok-check_divisors.ensures in
     search (rules, q, none)
