@@ -24,4 +24,6 @@ worked_leaves = record {
   ends_early = refl;
   not_shortest = refl;
   minimum_above = refl;
+  bytes = refl;
+  read = refl;
 }

@@ -1,12 +1,14 @@
 -- Leaves worked by hand.
 use Rattle.std.specs.Prelude.{◌≡◌, ℕ, ◌-◌, ◌^◌, true, false, [], ◌∷◌, ℤ, pos, neg_ℤ, Some, None, Ok, Err}
 use Rattle.divisors.specs.Laws.{over}
-use Rattle.leaf.specs.Faults.{refused, at_byte, unplaced}
+use Rattle.leaf.specs.Faults.{found, refused, at_byte, unplaced}
+use Rattle.leaf.specs.Layouts.{bytes_of}
+use Rattle.amounts.specs.Grammar.{amount_layout}
 use Rattle.amounts.specs.declared.amount_leaf.AmountLeaf.{AmountLeaf}
 use Rattle.amounts.specs.Amounts.{amounts}
 use Rattle.amounts.specs.Leaves.{leaf_of}
 use Rattle.amounts.specs.Making.{made_of}
-use Rattle.amounts.specs.Reading.{leaf_at}
+use Rattle.amounts.specs.Reading.{Written, leaf_at}
 
 abbrev pub minus : ℕ → ℤ
 minus n = neg_ℤ (pos n)
@@ -14,6 +16,10 @@ minus n = neg_ℤ (pos n)
 -- every multiple of p, unbounded
 abbrev pub by : ℕ → AmountLeaf
 by p = leaf_of None None (over p 1 ∷ []) []
+
+-- multiples of 2 up to 4, as written
+abbrev pub up_to_four : Written
+up_to_four = record { low = None; high = Some (pos 4); required = over 2 1 ∷ []; barred = [] }
 
 pub record WorkedLeaves : Type 0 where
   -- the next on the grid: above -8, -9 and -7 by 4, and above 2^62 by itself, where there is none
@@ -30,3 +36,6 @@ pub record WorkedLeaves : Type 0 where
   pub ends_early : leaf_at (65 ∷ 2 ∷ []) 1 ≡ refused (at_byte 2 2)
   pub not_shortest : leaf_at (65 ∷ 2 ∷ 132 ∷ 0 ∷ []) 1 ≡ refused (at_byte 3 2)
   pub minimum_above : leaf_at (65 ∷ 3 ∷ 5 ∷ 4 ∷ 0 ∷ 0 ∷ []) 1 ≡ refused (at_byte 8 1)
+  -- multiples of 2 up to 4, behind the kind byte: 02 04 01 02 01 00, read up to byte 7
+  pub bytes : bytes_of amount_layout up_to_four ≡ 2 ∷ 4 ∷ 1 ∷ 2 ∷ 1 ∷ 0 ∷ []
+  pub read : leaf_at (65 ∷ 2 ∷ 4 ∷ 1 ∷ 2 ∷ 1 ∷ 0 ∷ []) 1 ≡ found (leaf_of None (Some (pos 4)) (over 2 1 ∷ []) []) 7

@@ -3,3 +3,4 @@ pub mod Means
 pub mod Fields
 pub mod Grammar
 pub mod Making
+pub mod Works

@@ -14,3 +14,4 @@ pub mod Lawful
 pub mod Dates
 pub mod Tables
 pub mod Read
+pub mod Worked

@@ -1,9 +1,10 @@
 ghost use Rattle.days.specs.Days.{days};
 ghost use Rattle.days.specs.Making.{MakerJudged, made_of};
 ghost use Rattle.days.specs.Meaning.{Means, value_of};
+ghost use Rattle.days.specs.Worked.{WorkedDays};
 ghost use Rattle.leaf.specs.Faults.{told};
 ghost use Rattle.leaf.specs.Kind.{Lawful};
-ghost use Rattle.std.specs.Prelude.{◌≡◌, IfOk};
+ghost use Rattle.std.specs.Prelude.{◌≡◌, IfOk, OnOk};
 
 use crate::calendar::Date;
 use crate::weekdays::is_set;
@@ -25,6 +26,7 @@ impl DayLeaf {
         ensures sound { IfOk result (λ a. Lawful days a) }
         ensures means { IfOk result (λ a. Means (value_of minimum) (value_of maximum) set a) }
         ensures judged { MakerJudged }
+        ensures worked { OnOk result (WorkedDays) }
     {
         let bounds = Bounds::of_written(minimum, maximum)?;
         if !is_set(set) {

@@ -16,3 +16,5 @@ pub mod Relations
 pub mod Running
 pub mod Steps
 pub mod Feeds
+pub mod Outcomes
+pub mod Encoded

@@ -2,4 +2,6 @@ pub mod Lists
 pub mod Sheets
 pub mod Readings
 pub mod Runs
+pub mod Outcomes
+pub mod Encoded
 pub mod Held

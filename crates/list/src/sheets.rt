@@ -3,6 +3,7 @@ ghost use Rattle.std.specs.Result.{result_err};
 ghost use Rattle.leaf.specs.Faults.{Fills, shown};
 ghost use Rattle.leaf.specs.Kind.{before};
 ghost use Rattle.list.specs.Held.{LeadsOn, SameTable, Sound, Tells, Unsettles, held_of, places_of};
+ghost use Rattle.list.specs.Outcomes.{SheetsStand};
 ghost use Rattle.list.specs.Runs.{after};
 ghost use Rattle.list.specs.Runs.Call.{sheet as call_sheet};
 ghost use Rattle.list.specs.Sheets.{accepted_at, ends, fed, put_in, sheet_outcome};
@@ -79,6 +80,7 @@ impl<'a, V: Copy, L: Leaf<V>> Leaves<'a, V, L> {
         ensures held { held_of self.new ≡ after L.kind (places_of self.old) (held_of self.old) (call_sheet bytes.now) }
         ensures sound { Sound L.kind self.old → Sound L.kind self.new }
         ensures run { LeadsOn L.kind (call_sheet bytes.now) self.old self.new }
+        ensures grammar { SheetsStand L.kind }
     {
         let mut answer = SheetAnswer {
             accepted: 0,

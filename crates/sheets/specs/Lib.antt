@@ -1,2 +1,3 @@
 pub mod Output
+pub mod Encoded
 pub mod Worked

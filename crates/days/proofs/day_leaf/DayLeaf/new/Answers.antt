@@ -8,6 +8,7 @@ use Rattle.days.specs.Meaning.{Means, value_of}
 use Rattle.days.specs.Lawful.{widened_lawful}
 use Rattle.days.specs.Dates.{day_small}
 use Rattle.days.proofs.Making.{maker_judged}
+use Rattle.days.proofs.Works.{worked_days}
 use Rattle.days.proofs.Means.{leaf_means}
 use Rattle.days.proofs.day_leaf.DayLeaf.new.Goals as goal
 
@@ -24,4 +25,5 @@ returns c =
           subst (λ (y : Option ℕ). Means (value_of c.args.minimum) y set (leaf_of b.minimum b.maximum set)) w.maximum
           (subst (λ (x : Option ℕ). Means x b.maximum set (leaf_of b.minimum b.maximum set)) w.minimum (leaf_means b.minimum b.maximum set));
       judged = maker_judged;
+      worked = worked_days;
     }
