@@ -1,1 +1,5 @@
-pub mod Outcomes
+pub mod AmountTexts
+pub mod AmountQuestions
+pub mod DayTexts
+pub mod DayQuestions
+pub mod Lines

@@ -1,4 +1,4 @@
-ghost use Rattle.ask.specs.Outcomes.{amount_in, bound_in, value_in};
+ghost use Rattle.ask.specs.AmountTexts.{amount_bound_in, amount_in, value_in};
 ghost use Rattle.std.specs.Prelude.{◌≡◌};
 
 use amounts::WrittenAmount;
@@ -19,7 +19,7 @@ fn amount_of(text: &[u8]) -> Option<WrittenAmount>
 
 // The bound that a text writes, absent where it is a star.
 pub(crate) fn amount_bound_of(text: &[u8]) -> Option<Option<WrittenAmount>>
-    ensures { result ≡ bound_in text.now }
+    ensures { result ≡ amount_bound_in text.now }
 {
     bound_of(text, amount_of(text))
 }

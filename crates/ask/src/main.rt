@@ -1,7 +1,10 @@
-// Answers questions about amounts: each line of standard input is an amount leaf as text and a value.
+// Answers questions: each line of standard input is an amount leaf as text and an amount, or a day leaf and a date.
 #![tactic(auto)]
 
+mod amount_line;
 mod amount_text;
+mod day_line;
+mod day_text;
 mod line;
 mod wrong;
 

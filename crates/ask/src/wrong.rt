@@ -4,31 +4,39 @@ ghost use Rattle.std.specs.Prelude.{◌≡◌};
 use questions::Objection;
 use std::fmt;
 
-// What is wrong with a line's text.
+// What is wrong with a line's text: how many fields it has, or a field of a question about amounts or about days.
 #[derive(Clone, Copy)]
 pub(crate) enum Wrong {
     Fields,
-    Minimum,
-    Maximum,
+    MinimumAmount,
+    MaximumAmount,
     Required,
     Barred,
-    Value,
+    Amount,
+    MinimumDate,
+    MaximumDate,
+    Weekdays,
+    Date,
 }
 
 impl fmt::Display for Wrong {
     fn fmt<W: fmt::Write>(&self, f: &mut fmt::Formatter<W>) -> fmt::Result {
         f.write_str(match self {
-            Wrong::Fields => "not five fields with a space between",
-            Wrong::Minimum => "the minimum is no amount",
-            Wrong::Maximum => "the maximum is no amount",
+            Wrong::Fields => "neither four nor five fields with a space between",
+            Wrong::MinimumAmount => "the minimum is no amount",
+            Wrong::MaximumAmount => "the maximum is no amount",
             Wrong::Required => "the required list is no list of divisors",
             Wrong::Barred => "the barred list is no list of divisors",
-            Wrong::Value => "the value is no 64-bit amount",
+            Wrong::Amount => "the value is no 64-bit amount",
+            Wrong::MinimumDate => "the minimum is no date",
+            Wrong::MaximumDate => "the maximum is no date",
+            Wrong::Weekdays => "the weekdays are no ascending digits from 1 to 7",
+            Wrong::Date => "the value is no date",
         })
     }
 }
 
-// In each program: of any M it would overlap with what a refusal gives.
+// Not for any M beside `Objection`: there it would overlap with what a refusal gives.
 impl From<Wrong> for Objection<Wrong> {
     ghost from_gives = { λ w o. o ≡ Malformed w };
 

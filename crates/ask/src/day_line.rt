@@ -1,4 +1,4 @@
-ghost use Rattle.ask_days.specs.Questions.{fields_outcome, outcome_of};
+ghost use Rattle.ask.specs.DayQuestions.{day_outcome, outcome_of};
 ghost use Rattle.questions.specs.Outcomes.{said};
 ghost use Rattle.std.specs.Prelude.{◌≡◌, Some};
 
@@ -8,9 +8,9 @@ use days::{Date, DayLeaf, day_number};
 use leaf::{Fault, Refusal, admits};
 use questions::Objection;
 
-// The fields of a line.
+// The fields of a question about days.
 #[derive(Clone, Copy)]
-pub(crate) struct Fields<'a> {
+pub(crate) struct DayFields<'a> {
     pub minimum: &'a [u8],
     pub maximum: &'a [u8],
     pub weekdays: &'a [u8],
@@ -33,13 +33,13 @@ fn ask_leaf(
     Ok(admits(&leaf, day))
 }
 
-// What a question comes to, by the text of its fields.
-pub(crate) fn ask_fields(fields: &Fields<'_>) -> Result<bool, Objection<Wrong>>
-    ensures { said result ≡ Some (fields_outcome fields.now.minimum.now fields.now.maximum.now fields.now.weekdays.now fields.now.value.now) }
+// What a question about days comes to, by the text of its fields.
+pub(crate) fn ask_day(fields: &DayFields<'_>) -> Result<bool, Objection<Wrong>>
+    ensures { said result ≡ Some (day_outcome fields.now.minimum.now fields.now.maximum.now fields.now.weekdays.now fields.now.value.now) }
 {
-    let low = date_bound_of(fields.minimum).ok_or(Wrong::Minimum)?;
-    let high = date_bound_of(fields.maximum).ok_or(Wrong::Maximum)?;
+    let low = date_bound_of(fields.minimum).ok_or(Wrong::MinimumDate)?;
+    let high = date_bound_of(fields.maximum).ok_or(Wrong::MaximumDate)?;
     let set = weekdays_of(fields.weekdays).ok_or(Wrong::Weekdays)?;
-    let date = date_of(fields.value).ok_or(Wrong::Value)?;
+    let date = date_of(fields.value).ok_or(Wrong::Date)?;
     ask_leaf(low, high, set, date)
 }

@@ -8,9 +8,9 @@ use Rattle.days.specs.Calendar.{day_of}
 use Rattle.days.specs.Days.{days}
 use Rattle.days.specs.Making.{made_of}
 use Rattle.questions.specs.Outcomes.{Outcome, answered, or_else, refused}
-use Rattle.ask_days.specs.declared.wrong.Wrong.{Wrong}
-use Rattle.ask_days.specs.declared.wrong.Wrong.TheVariants.{Minimum, Maximum, Weekdays, Value}
-use Rattle.ask_days.specs.DayTexts.{date_bound_in, date_in, weekdays_in}
+use Rattle.ask.specs.declared.wrong.Wrong.{Wrong}
+use Rattle.ask.specs.declared.wrong.Wrong.TheVariants.{MinimumDate, MaximumDate, Weekdays, Date as NoDate}
+use Rattle.ask.specs.DayTexts.{date_bound_in, date_in, weekdays_in}
 
 -- a date asked about that is none
 abbrev pub day_asked : DayLeaf → Option ℕ → Outcome Wrong
@@ -26,7 +26,7 @@ abbrev pub outcome_of : Option Date → Option Date → ℕ → Date → Outcome
 outcome_of low high set d = leaf_asked (made_of low high set) (day_of d.year d.month d.day)
 
 -- the text of all fields is looked at first
-abbrev pub fields_outcome : List ℕ → List ℕ → List ℕ → List ℕ → Outcome Wrong
-fields_outcome minimum maximum weekdays value =
-    or_else Minimum (date_bound_in minimum) (λ low. or_else Maximum (date_bound_in maximum) (λ high.
-    or_else Weekdays (weekdays_in weekdays) (λ set. or_else Value (date_in value) (λ d. outcome_of low high set d))))
+abbrev pub day_outcome : List ℕ → List ℕ → List ℕ → List ℕ → Outcome Wrong
+day_outcome minimum maximum weekdays value =
+    or_else MinimumDate (date_bound_in minimum) (λ low. or_else MaximumDate (date_bound_in maximum) (λ high.
+    or_else Weekdays (weekdays_in weekdays) (λ set. or_else NoDate (date_in value) (λ d. outcome_of low high set d))))

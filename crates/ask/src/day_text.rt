@@ -1,4 +1,4 @@
-ghost use Rattle.ask_days.specs.DayTexts.{date_bound_in, date_in, is_date_shape, weekdays_after, weekdays_in, with_weekday};
+ghost use Rattle.ask.specs.DayTexts.{date_bound_in, date_in, is_date_shape, weekdays_after, weekdays_in, with_weekday};
 ghost use Rattle.std.specs.Prelude.{◌≡◌};
 
 use days::Date;

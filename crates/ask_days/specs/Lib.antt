@@ -1,4 +1,0 @@
-pub mod Splitting
-pub mod DayTexts
-pub mod Questions
-pub mod Lines
