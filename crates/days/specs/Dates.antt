@@ -102,13 +102,16 @@ one_date y m d z n e v w h =
     let h'' : day_number y m d ≡ day_number y m e = h' ∙ ap (λ (u : ℕ). day_number y u e) (sym b) in
     (a, b, omega (arith, v.day, w.day))
 
+pub same_date : (y m d z n e k : ℕ) → day_of y m d ≡ Some k → day_of z n e ≡ Some k → (y ≡ z) × (m ≡ n) × (d ≡ e)
+same_date y m d z n e k p q =
+    let a = known y m d k p in
+    let b = known z n e k q in
+    one_date y m d z n e a.0 b.0 (sym a.1 ∙ b.1)
+
 laws : CalendarLaws
 unfolding day_of year_start before
 laws = record {
-  one_date = λ y m d z n e k p q.
-      let a = known y m d k p in
-      let b = known z n e k q in
-      one_date y m d z n e a.0 b.0 (sym a.1 ∙ b.1);
+  one_date = same_date;
   is_day = day_small;
   saturday = refl;
   goes_on = λ k. omega arith;

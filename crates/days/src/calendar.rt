@@ -1,4 +1,4 @@
-ghost use Rattle.std.specs.Prelude.{◌≡◌, ◌+◌, ◌-◌, ◌<◌, ◌≤◌, false, Some, MatchOption};
+ghost use Rattle.std.specs.Prelude.{◌≡◌, ℕ, ◌+◌, ◌-◌, ◌<◌, ◌≤◌, false, Some, IfSome, MatchOption};
 ghost use Rattle.days.specs.Calendar.{CalendarStands, Valid, before, day_number, day_of, is_day_number, leap, year_start};
 
 // A date as it is written, whether there is such a day or not.
@@ -103,6 +103,7 @@ fn find_date(n: u32) -> Date
 // The date of the day with that number, absent past the last day.
 pub fn date_of(n: u32) -> Option<Date>
     ensures value { MatchOption result (is_day_number n ≡ false) (λ d. day_of d.year d.month d.day ≡ Some n) }
+    ensures inverse { IfSome result (λ d. (year month day : ℕ) → day_of year month day ≡ Some n → (d.year ≡ year) × (d.month ≡ month) × (d.day ≡ day)) }
     ensures laws { CalendarStands }
 {
     if n <= LAST_DAY {
