@@ -1,5 +1,5 @@
 -- How a number stands in a sheet, whatever reads it: what is written, what breaks off, what is no number.
-use Rattle.std.specs.Prelude.{◌≡◌, ℕ, zero, suc, ◌+◌, ◌*◌, ◌/◌, ◌%◌, ◌^◌, ◌<◌, ◌≤◌, cond, ◌⊎◌, List, [], ◌∷◌, ◌++◌, length, take, drop, nat_lt}
+use Rattle.std.specs.Prelude.{◌≡◌, ℕ, zero, suc, ◌+◌, ◌*◌, ◌/◌, ◌%◌, ◌^◌, ◌<◌, ◌≤◌, cond, ◌⊎◌, ◌↔◌, List, [], ◌∷◌, ◌++◌, length, take, drop, nat_lt}
 use Rattle.leaf.specs.Faults.{Answer, found, refused, at_byte}
 use Rattle.leaf.specs.Numbers.{number_at}
 
@@ -42,14 +42,11 @@ CutShort bytes = Follow bytes × (length bytes < 10)
 abbrev pub Overlong : List ℕ → Type 0
 Overlong bytes = ((w : Spelt bytes) × (length w.front < 10) × Improper w) ⊎ (Follow (take 10 bytes) × (10 ≤ length bytes))
 
-abbrev pub EitherWay : Type 0 → Type 0 → Type 0
-EitherWay A B = (A → B) × (B → A)
-
 -- Each answer comes on its condition and on no other.
 pub record Judged (sheet : List ℕ) (start : ℕ) (a : Answer ℕ) : Type 0 where
-  pub read : (n size : ℕ) → EitherWay (a ≡ found n (start + size)) (Written (drop start sheet) n size)
-  pub two : EitherWay (a ≡ refused (at_byte 2 (length sheet))) (CutShort (drop start sheet))
-  pub three : EitherWay (a ≡ refused (at_byte 3 start)) (Overlong (drop start sheet))
+  pub read : (n size : ℕ) → (a ≡ found n (start + size)) ↔ (Written (drop start sheet) n size)
+  pub two : (a ≡ refused (at_byte 2 (length sheet))) ↔ (CutShort (drop start sheet))
+  pub three : (a ≡ refused (at_byte 3 start)) ↔ (Overlong (drop start sheet))
 
 abbrev pub Numbers : Type 0
 Numbers = (sheet : List ℕ) (start : ℕ) → Judged sheet start (number_at sheet start)
@@ -85,8 +82,8 @@ abbrev pub Beginning : List ℕ → Type 0
 Beginning bytes = (more : List ℕ) × (n : ℕ) × (size : ℕ) × Written (bytes ++ more) n size
 
 pub record Told : Type 0 where
-  pub two : (bytes : List ℕ) → EitherWay (CutShort bytes) (Beginning bytes × ((n size : ℕ) → Written bytes n size → ⊥))
-  pub three : (bytes : List ℕ) → EitherWay (Overlong bytes) (Beginning bytes → ⊥)
+  pub two : (bytes : List ℕ) → (CutShort bytes) ↔ (Beginning bytes × ((n size : ℕ) → Written bytes n size → ⊥))
+  pub three : (bytes : List ℕ) → (Overlong bytes) ↔ (Beginning bytes → ⊥)
 
 -- the shortest form is that: no fewer bytes spell the same number
 abbrev pub Shortest : Type 0
