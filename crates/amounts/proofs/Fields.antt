@@ -6,7 +6,7 @@ use Rattle.std.proofs.lemmas.List.{append-nil, append_assoc}
 use Rattle.divisors.specs.declared.fraction.Fraction.{Fraction}
 use Rattle.leaf.specs.Faults.{Answer, Refused, found, refused, next, at_byte}
 use Rattle.leaf.specs.Fields.{field_at}
-use Rattle.leaf.specs.Numbers.{has_bit, number_at}
+use Rattle.leaf.specs.Numbers.{bit_of, has_bit, number_at}
 use Rattle.leaf.specs.Windows.{bound_at, value_at}
 use Rattle.leaf.specs.declared.bounds.Bounds.{Bounds}
 use Rattle.leaf.proofs.Rows.{Runs, Holds, holds_next, Walked, Halted, walks, arrives}
@@ -14,7 +14,7 @@ use Rattle.amounts.specs.declared.amount.WrittenAmount.{WrittenAmount}
 use Rattle.amounts.specs.Making.{amount_in}
 use Rattle.amounts.specs.Values.{amount_of}
 use Rattle.amounts.specs.Reading.{Written, amount_at, are_flags, flags_at, bounds_at, fraction_at, fractions_at, head_at, list_at, lists_at, part_at, written_at}
-use Rattle.amounts.specs.Grammar.{Role, flags, magnitude, count, part, parts, if_present, amount_fields, is_negative, has_sign, bit_of, flags_of, bound_numbers, part_numbers, list_numbers, leaf_numbers}
+use Rattle.amounts.specs.Grammar.{Role, flags, magnitude, count, part, parts, if_present, amount_fields, is_negative, has_sign, flags_of, bound_numbers, part_numbers, list_numbers, leaf_numbers}
 
 none_some : {A : Type 0} {x : A} → None ≡ Some x → ⊥
 none_some e = let q : ◌≡◌ {A = ℕ} 0 1 = cc in omega (arith, q)

@@ -6,7 +6,7 @@ use Rattle.divisors.specs.declared.fraction.Fraction.{Fraction}
 use Rattle.divisors.specs.Fractions.{in_range}
 use Rattle.divisors.specs.Written.{are_in_range}
 use Rattle.leaf.specs.Faults.{Answer, found, next}
-use Rattle.leaf.specs.Numbers.{has_bit}
+use Rattle.leaf.specs.Numbers.{bit_of, has_bit}
 use Rattle.leaf.specs.Windows.{bound_at}
 use Rattle.leaf.specs.declared.bounds.Bounds.{Bounds}
 use Rattle.leaf.proofs.Rows.{field_fits, number_read}
@@ -15,7 +15,7 @@ use Rattle.amounts.specs.Amounts.{is_bound}
 use Rattle.amounts.specs.Making.{amount_in}
 use Rattle.amounts.specs.Values.{amount_of, is_amount}
 use Rattle.amounts.specs.Reading.{Written, amount_at, are_flags, flags_at, bounds_at, fractions_at, head_at, list_at, lists_at, part_at, written_at}
-use Rattle.amounts.specs.Grammar.{flags, magnitude, count, part, amount_fields, is_part, is_list, is_negative, has_sign, bit_of, flags_of, bound_numbers, part_numbers, list_numbers, leaf_numbers, amount_layout}
+use Rattle.amounts.specs.Grammar.{flags, magnitude, count, part, amount_fields, is_part, is_list, is_negative, has_sign, flags_of, bound_numbers, part_numbers, list_numbers, leaf_numbers, amount_layout}
 use Rattle.amounts.proofs.Fields.{bound_field, list_field}
 
 -- the bits of flags that are made of four

@@ -1,12 +1,12 @@
 -- The bytes of an amount leaf, and on which condition each answer of its reader comes.
-use Rattle.std.specs.Prelude.{◌≡◌, ℕ, zero, suc, ◌+◌, ◌*◌, ◌^◌, ◌<◌, Bool, true, false, cond, ◌&&◌, ◌↔◌, List, [], ◌∷◌, ◌++◌, length, drop, ℤ, pos, negsuc, Some, None, Option, is_some, unsigned_abs, nat_le, nat_lt}
+use Rattle.std.specs.Prelude.{◌≡◌, ℕ, zero, suc, ◌+◌, ◌*◌, ◌^◌, ◌<◌, Bool, true, false, ◌&&◌, ◌↔◌, List, [], ◌∷◌, ◌++◌, length, drop, ℤ, pos, negsuc, Some, None, Option, is_some, unsigned_abs, nat_le, nat_lt}
 use Rattle.divisors.specs.declared.fraction.Fraction.{Fraction}
 use Rattle.divisors.specs.Written.{are_in_range}
 use Rattle.leaf.specs.Faults.{refused, at_byte}
 use Rattle.leaf.specs.Encoding.{Bytes}
 use Rattle.leaf.specs.Fields.{Shape, byte, number, Fields, NumberDue}
 use Rattle.leaf.specs.Layouts.{Layout, LeafGrammar}
-use Rattle.leaf.specs.Numbers.{has_bit}
+use Rattle.leaf.specs.Numbers.{bit_of, has_bit}
 use Rattle.amounts.specs.declared.amount_leaf.AmountLeaf.{AmountLeaf}
 use Rattle.amounts.specs.Amounts.{is_bound}
 use Rattle.amounts.specs.Leaves.{is_window, leaf_of}
@@ -70,9 +70,6 @@ is_negative (negsuc m) = true
 abbrev pub has_sign : Option ℤ → Bool
 has_sign None = false
 has_sign (Some z) = is_negative z
-
-abbrev pub bit_of : Bool → ℕ
-bit_of b = cond b 1 0
 
 -- bit 0 a minimum is present, bit 1 a maximum is present, bit 2 the minimum is negative, bit 3 the maximum is negative
 abbrev pub flags_of : Option ℤ → Option ℤ → ℕ

@@ -5,7 +5,7 @@ use Rattle.std.proofs.lemmas.Bool.{cond-true, cond-false, cases_Bool, ltb-true}
 use Rattle.std.proofs.lemmas.List.{append-nil, append_assoc}
 use Rattle.leaf.specs.Faults.{Answer, Refused, found, refused, next, at_byte}
 use Rattle.leaf.specs.Fields.{field_at}
-use Rattle.leaf.specs.Numbers.{has_bit, number_at}
+use Rattle.leaf.specs.Numbers.{bit_of, has_bit, number_at}
 use Rattle.leaf.specs.Windows.{bound_at, value_at, written}
 use Rattle.leaf.specs.declared.bounds.Bounds.{Bounds}
 use Rattle.leaf.proofs.Rows.{Runs, Holds, holds_next, Walked, Halted, walks, arrives}
@@ -16,7 +16,7 @@ use Rattle.days.specs.Leaves.{is_window, leaf_of}
 use Rattle.days.specs.Making.{numbered}
 use Rattle.days.specs.Reading.{bounds_at, flags_at, leaf_at, set_at, signed_date_at}
 use Rattle.days.specs.Weekdays.{is_set}
-use Rattle.days.specs.Grammar.{Written, Role, flags, year, month, day, weekdays, if_present, day_fields, bit_of, flags_of, date_numbers, leaf_numbers, is_dated, day_layout}
+use Rattle.days.specs.Grammar.{Written, Role, flags, year, month, day, weekdays, if_present, day_fields, flags_of, date_numbers, leaf_numbers, is_dated, day_layout}
 
 -- a date as written, if it is there
 abbrev pub dated_at : Bool → List ℕ → ℕ → Answer (Option Date)

@@ -6,7 +6,7 @@ use Rattle.leaf.specs.Faults.{Answer, found, refused, next}
 use Rattle.leaf.specs.Encoding.{Bytes}
 use Rattle.leaf.specs.Fields.{Stands, Unfit, Reached, here, field_at}
 use Rattle.leaf.specs.Layouts.{LeafGrammar, is_of_field}
-use Rattle.leaf.specs.Numbers.{has_bit}
+use Rattle.leaf.specs.Numbers.{bit_of, has_bit}
 use Rattle.leaf.proofs.Rows.{Holds, Halted, Runs, due_at, field_fits, number_read, unfit_at}
 use Rattle.leaf.proofs.Judging.{AllBelow, BelowFlags, both_below, Known, LeafRow, Numeric, Row, leaf_grammar, only_first, row_parts}
 use Rattle.days.specs.declared.calendar.Date.{Date}
@@ -14,7 +14,7 @@ use Rattle.days.specs.Calendar.{day_number, is_date}
 use Rattle.days.specs.Dates.{day_small}
 use Rattle.days.specs.Reading.{flags_at, leaf_at, set_at}
 use Rattle.days.specs.Weekdays.{is_set}
-use Rattle.days.specs.Grammar.{Written, Role, flags, year, month, day, weekdays, if_present, brought_by, day_fields, bit_of, flags_of, date_numbers, leaf_numbers, is_dated, day_layout, Due, NoSuchDay, FieldsJudged, DaysStand}
+use Rattle.days.specs.Grammar.{Written, Role, flags, year, month, day, weekdays, if_present, brought_by, day_fields, flags_of, date_numbers, leaf_numbers, is_dated, day_layout, Due, NoSuchDay, FieldsJudged, DaysStand}
 use Rattle.days.proofs.Fields.{Arrived, dated_at, leaf_judges, numbered_is, written_at, written_walks}
 
 -- the bits of flags that are made of two

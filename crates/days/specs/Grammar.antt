@@ -1,10 +1,10 @@
 -- The bytes of a day leaf, and on which condition each answer of its reader comes.
-use Rattle.std.specs.Prelude.{◌≡◌, ℕ, ◌+◌, ◌*◌, Bool, true, false, cond, ◌&&◌, ◌↔◌, List, [], ◌∷◌, ◌++◌, drop, Some, None, Option, is_some, nat_lt}
+use Rattle.std.specs.Prelude.{◌≡◌, ℕ, ◌+◌, ◌*◌, Bool, true, false, ◌&&◌, ◌↔◌, List, [], ◌∷◌, ◌++◌, drop, Some, None, Option, is_some, nat_lt}
 use Rattle.leaf.specs.Faults.{refused, at_byte}
 use Rattle.leaf.specs.Encoding.{Bytes}
 use Rattle.leaf.specs.Fields.{Shape, byte, number, Fields, NumberDue}
 use Rattle.leaf.specs.Layouts.{Layout, LeafGrammar}
-use Rattle.leaf.specs.Numbers.{has_bit}
+use Rattle.leaf.specs.Numbers.{bit_of, has_bit}
 use Rattle.leaf.specs.Windows.{written}
 use Rattle.days.specs.declared.calendar.Date.{Date}
 use Rattle.days.specs.declared.day_leaf.DayLeaf.{DayLeaf}
@@ -74,9 +74,6 @@ abbrev pub day_fields : Fields Role
 day_fields = record { shape = shape_of; fits = fits_in; brings = brought_by; refusal = refusal_in; named = named_by }
 
 -- what is written in the fields of a leaf
-abbrev pub bit_of : Bool → ℕ
-bit_of b = cond b 1 0
-
 -- bit 0 a minimum is present, bit 1 a maximum is present
 abbrev pub flags_of : Option Date → Option Date → ℕ
 flags_of low high = bit_of (is_some low) + 2 * bit_of (is_some high)

@@ -1,9 +1,8 @@
 -- Leaves worked by hand.
 use Rattle.std.specs.Prelude.{◌≡◌, ℕ, [], ◌∷◌, Some, None, Ok, Err}
-use Rattle.leaf.specs.Faults.{found, refused, at_byte, unplaced}
+use Rattle.leaf.specs.Faults.{refused, at_byte, unplaced}
 use Rattle.leaf.specs.Layouts.{bytes_of}
 use Rattle.days.specs.declared.calendar.Date.{Date}
-use Rattle.days.specs.Calendar.{day_of}
 use Rattle.days.specs.Grammar.{day_layout}
 use Rattle.days.specs.Leaves.{leaf_of}
 use Rattle.days.specs.Making.{made_of}
