@@ -16,6 +16,8 @@ use Rattle.leaf.proofs.Judging.{AllBelow, BelowFlags, both_below, Known, Numeric
 use Rattle.amounts.specs.Amounts.{amounts, is_bound}
 use Rattle.amounts.specs.Values.{amount_of}
 use Rattle.amounts.specs.Reading.{Written, are_flags, leaf_at, written_at}
+use Rattle.amounts.specs.Meaning.{Means, ReadMeans}
+use Rattle.amounts.specs.Read.{leaf_of_means}
 use Rattle.amounts.specs.Endings.{written_sound}
 use Rattle.amounts.specs.Grammar.{Role, flags, magnitude, count, part, parts, if_present, brought_by, amount_fields, is_part, is_list, bound_numbers, part_numbers, list_numbers, leaf_numbers, amount_layout, Due, FieldsJudged, AmountsStand}
 use Rattle.amounts.proofs.Fields.{written_runs}
@@ -163,3 +165,16 @@ module _ (s : List ℕ) (at : ℕ) (b : Bytes s) where
 pub amounts_stand : AmountsStand
 unfolding AmountsStand
 amounts_stand = record { leaves = leaves; fields = judged }
+
+-- what is read means what is written
+pub read_means : ReadMeans
+unfolding ReadMeans
+read_means s at a e b q =
+    let r = ((leaves.judged s at b).read a e).0 q in
+    let w = r.0 in
+    let h = and_parts (is_bound w.low) (is_bound w.high && (is_list w.required && is_list w.barred)) r.1.fits in
+    let i = and_parts (is_bound w.high) (is_list w.required && is_list w.barred) h.1 in
+    let j = and_parts (is_list w.required) (is_list w.barred) i.1 in
+    let few = and_parts (are_in_range w.required) (nat_le (length w.required) 6) j.0 in
+    let less = and_parts (are_in_range w.barred) (nat_le (length w.barred) 6) j.1 in
+    (w, r.1, subst (Means w.low w.high w.required w.barred) (sym r.3) (leaf_of_means w.low w.high w.required w.barred few.0 less.0))

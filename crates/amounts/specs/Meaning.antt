@@ -2,7 +2,9 @@
 use Rattle.std.specs.Prelude.{◌≡◌, ℕ, true, List, ℤ, ◌≤ℤ◌, Some, Decides, Option}
 use Rattle.divisors.specs.declared.fraction.Fraction.{Fraction}
 use Rattle.divisors.specs.Written.{Admits, Spares}
+use Rattle.leaf.specs.Encoding.{Bytes}
 use Rattle.leaf.specs.Faults.{found}
+use Rattle.leaf.specs.Layouts.{LeafStands}
 use Rattle.leaf.specs.Kind.{admits}
 use Rattle.amounts.specs.declared.amount.WrittenAmount.{WrittenAmount}
 use Rattle.amounts.specs.declared.amount_leaf.AmountLeaf.{AmountLeaf}
@@ -10,7 +12,8 @@ use Rattle.amounts.specs.Values.{is_amount}
 use Rattle.amounts.specs.Amounts.{amounts}
 use Rattle.leaf.specs.Windows.{written}
 use Rattle.amounts.specs.Making.{amount_in}
-use Rattle.amounts.specs.Reading.{Written, leaf_at, written_at}
+use Rattle.amounts.specs.Reading.{Written, leaf_at}
+use Rattle.amounts.specs.Grammar.{amount_layout}
 
 -- v is at least the minimum and at most the maximum where they are there, its division by each required divisor gives an
 -- integer (v * q is a whole multiple of p), and its division by no barred one does
@@ -28,8 +31,8 @@ Means low high ws us a = (v : ℤ) → is_amount v ≡ true → Decides (admits 
 abbrev pub value_of : Option WrittenAmount → Option ℤ
 value_of bound = written amount_in bound
 
--- what is read of a sheet admits exactly what is written there
+-- what is read of a sheet stands there in the bytes of a leaf as written, and admits exactly what that means
 unfoldable pub ReadMeans : Type 0
 ReadMeans =
-    (s : List ℕ) (at : ℕ) (a : AmountLeaf) (e : ℕ) → leaf_at s at ≡ found a e →
-    (w : Written) × (written_at s at ≡ found w e) × Means w.low w.high w.required w.barred a
+    (s : List ℕ) (at : ℕ) (a : AmountLeaf) (e : ℕ) → Bytes s → leaf_at s at ≡ found a e →
+    (w : Written) × LeafStands amount_layout s at w e × Means w.low w.high w.required w.barred a

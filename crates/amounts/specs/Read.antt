@@ -1,5 +1,5 @@
 -- The leaf that a sheet holds: lawful, and meaning what is written.
-use Rattle.std.specs.Prelude.{◌≡◌, ℕ, ◌≤◌, true, cond, ◌&&◌, List, length, ℤ, None, Option, refl}
+use Rattle.std.specs.Prelude.{◌≡◌, ℕ, ◌≤◌, true, ◌&&◌, List, length, ℤ, None, Option}
 use Rattle.std.proofs.Common.{sym, ap, subst, ◌∙◌, arith}
 use Rattle.std.proofs.lemmas.Bool.{and_from, cond_both}
 use Rattle.divisors.specs.declared.fraction.Fraction.{Fraction}
@@ -14,13 +14,12 @@ use Rattle.divisors.proofs.Fills.{all_in_range}
 use Rattle.divisors.proofs.Folds.{fold_is}
 use Rattle.divisors.proofs.Kept.{barred_thinned, positive, required_settled}
 use Rattle.divisors.proofs.Makes.{fold_of_lem, thin_of_lem}
-use Rattle.leaf.specs.Faults.{Answer, Refused, found, refused, at_byte, next}
+use Rattle.leaf.specs.Faults.{found, refused, at_byte}
 use Rattle.leaf.specs.Kind.{Lawful, WellRead, is_bound, is_value_window}
 use Rattle.leaf.proofs.Chains.{next_both}
-use Rattle.amounts.specs.declared.amount_leaf.AmountLeaf.{AmountLeaf}
 use Rattle.amounts.specs.Amounts.{amounts}
 use Rattle.amounts.specs.Leaves.{is_window, leaf_of, row_of}
-use Rattle.amounts.specs.Meaning.{Means, ReadMeans}
+use Rattle.amounts.specs.Meaning.{Means}
 use Rattle.amounts.specs.Reading.{Written, both_lists, leaf_at, lists_at, written_at}
 use Rattle.amounts.specs.Endings.{Lists, Sound, list_taken, lists_end, written_sound}
 use Rattle.amounts.specs.Lengths.{barred_length, required_length, row_fractions, row_padded}
@@ -47,7 +46,7 @@ leaf_lawful low high ws us w h l g m =
     (and_from (padded r) (settled (fractions r)) (row_padded (required_of ws) (omega (arith, required_length ws))) (ap settled (row_fractions (required_of ws)) ∙ required_settled ws (all_in_range ws h)))
     (and_from (padded s) (thinned (fractions s)) (row_padded (barred_of us) (omega (arith, barred_length us))) (ap thinned (row_fractions (barred_of us)) ∙ barred_thinned us (all_in_range us g)))
 
-leaf_of_means : (low high : Option ℤ) (ws us : List Fraction) → are_in_range ws ≡ true → are_in_range us ≡ true → Means low high ws us (leaf_of low high ws us)
+pub leaf_of_means : (low high : Option ℤ) (ws us : List Fraction) → are_in_range ws ≡ true → are_in_range us ≡ true → Means low high ws us (leaf_of low high ws us)
 leaf_of_means low high ws us h g = leaf_means (leaf_of low high ws us) ws us (folds ws h) (thins us g)
 
 windowed : (s : List ℕ) (i : ℕ) (w : Written) (e : ℕ) → Sound s i w e → is_window w.low w.high ≡ true → is_value_window amounts w.low w.high ≡ true
@@ -63,32 +62,6 @@ well_read s i =
     cond_both (is_window w.low w.high) (found a e) (refused (at_byte 8 i)) (WellRead amounts s i)
     (λ t. (leaf_lawful w.low w.high w.required w.barred (windowed s i w e h t) h.required h.few_required h.barred h.few_barred, h.past, h.within))
     (λ _. tt))
-
--- what holds of what is read, by the leaf as written
-abbrev Says : List ℕ → ℕ → AmountLeaf → ℕ → Type 0
-Says s i a e = (w : Written) × (written_at s i ≡ found w e) × Means w.low w.high w.required w.barred a
-
-pub read_means : ReadMeans
-unfolding ReadMeans
-read_means s i a e = go (written_at s i) refl
-  where
-    said : (w : Written) (g : ℕ) → written_at s i ≡ found w g → ◌≡◌ {A = Answer AmountLeaf} (found (leaf_of w.low w.high w.required w.barred) g) (found a e) → Says s i a e
-    said w g p q =
-        let k : leaf_of w.low w.high w.required w.barred ≡ a = cc in
-        let n : g ≡ e = cc in
-        let h = written_sound s i w g p in
-        (w, p ∙ ap (λ (m : ℕ). found w m) n, subst (Means w.low w.high w.required w.barred) k (leaf_of_means w.low w.high w.required w.barred h.required h.barred))
-
-    no : {r : Answer AmountLeaf} (f : Refused) → r ≡ refused f → r ≡ found a e → Says s i a e
-    no f p q = absurd (let z : ◌≡◌ {A = ℕ} 0 1 = cc in omega arith)
-
-    go :
-        (o : Answer Written) → written_at s i ≡ o →
-        next o (λ w end. cond (is_window w.low w.high) (found (leaf_of w.low w.high w.required w.barred) end) (refused (at_byte 8 i))) ≡ found a e → Says s i a e
-    go (refused f) p = λ q. no f refl q
-    go (found w g) p =
-        cond_both (is_window w.low w.high) (found (leaf_of w.low w.high w.required w.barred) g) (refused (at_byte 8 i)) (λ r. r ≡ found a e → Says s i a e)
-        (λ _ q. said w g p q) (λ _ q. no (at_byte 8 i) refl q)
 
 -- nothing is refused of the lists that were read
 pub lists_taken :

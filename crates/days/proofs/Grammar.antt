@@ -15,6 +15,8 @@ use Rattle.days.specs.Dates.{day_small}
 use Rattle.days.specs.Reading.{flags_at, leaf_at, set_at}
 use Rattle.days.specs.Weekdays.{is_set}
 use Rattle.days.specs.Grammar.{Written, Role, flags, year, month, day, weekdays, if_present, brought_by, day_fields, flags_of, date_numbers, leaf_numbers, is_dated, day_layout, Due, NoSuchDay, FieldsJudged, DaysStand}
+use Rattle.days.specs.Meaning.{Means, ReadMeans, value_of}
+use Rattle.days.proofs.Means.{leaf_means}
 use Rattle.days.proofs.Fields.{Arrived, dated_at, leaf_judges, numbered_is, written_at, written_walks}
 
 -- the bits of flags that are made of two
@@ -184,3 +186,11 @@ module _ (s : List ℕ) (at : ℕ) (b : Bytes s) where
 pub days_stand : DaysStand
 unfolding DaysStand
 days_stand = record { leaves = leaves; fields = judged }
+
+-- what is read means what is written
+pub read_means : ReadMeans
+unfolding ReadMeans
+read_means s at a e b q =
+    let r = ((leaves.judged s at b).read a e).0 q in
+    let w = r.0 in
+    (w, r.1, subst (Means (value_of w.low) (value_of w.high) w.weekdays) (sym r.3) (leaf_means (value_of w.low) (value_of w.high) w.weekdays))

@@ -1,6 +1,8 @@
 -- What a day leaf admits, in the words of the dates and weekdays that were written.
 use Rattle.std.specs.Prelude.{◌≡◌, ℕ, ◌≤◌, true, List, Some, Decides, Option}
+use Rattle.leaf.specs.Encoding.{Bytes}
 use Rattle.leaf.specs.Faults.{found}
+use Rattle.leaf.specs.Layouts.{LeafStands}
 use Rattle.leaf.specs.Numbers.{has_bit}
 use Rattle.leaf.specs.Kind.{admits}
 use Rattle.days.specs.declared.calendar.Date.{Date}
@@ -9,7 +11,8 @@ use Rattle.days.specs.Calendar.{is_day_number, weekday}
 use Rattle.days.specs.Days.{days}
 use Rattle.leaf.specs.Windows.{written}
 use Rattle.days.specs.Making.{numbered}
-use Rattle.days.specs.Reading.{bounds_at, flags_at, leaf_at, set_at}
+use Rattle.days.specs.Reading.{leaf_at}
+use Rattle.days.specs.Grammar.{Written, day_layout}
 
 -- d is a day, no earlier than the minimum and no later than the maximum where they are there, and its weekday is in the set
 pub record Meant (low high : Option ℕ) (set d : ℕ) : Type 0 where
@@ -22,19 +25,12 @@ pub record Meant (low high : Option ℕ) (set d : ℕ) : Type 0 where
 abbrev pub Means : Option ℕ → Option ℕ → ℕ → DayLeaf → Type 0
 Means low high set a = (d : ℕ) → Decides (admits days a d) (Meant low high set d)
 
--- behind its flags a leaf that was read has its bounds and its weekdays as written, and admits exactly what they mean
-pub record ReadAs (s : List ℕ) (at : ℕ) (a : DayLeaf) (e : ℕ) : Type 0 where
-  pub flags : ℕ
-  pub at_bounds : ℕ
-  pub at_set : ℕ
-  pub flagged : flags_at s at ≡ found flags at_bounds
-  pub bounded : bounds_at flags s at_bounds ≡ found a.bounds at_set
-  pub weekdays : set_at s at_set ≡ found a.weekdays e
-  pub means : Means a.bounds.minimum a.bounds.maximum a.weekdays a
-
-unfoldable pub ReadMeans : Type 0
-ReadMeans = (s : List ℕ) (at : ℕ) (a : DayLeaf) (e : ℕ) → leaf_at s at ≡ found a e → ReadAs s at a e
-
 -- the number of a bound's date as written
 abbrev pub value_of : Option Date → Option ℕ
 value_of bound = written numbered bound
+
+-- what is read of a sheet stands there in the bytes of a leaf as written, and admits exactly what that means
+unfoldable pub ReadMeans : Type 0
+ReadMeans =
+    (s : List ℕ) (at : ℕ) (a : DayLeaf) (e : ℕ) → Bytes s → leaf_at s at ≡ found a e →
+    (w : Written) × LeafStands day_layout s at w e × Means (value_of w.low) (value_of w.high) w.weekdays a

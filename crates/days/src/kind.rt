@@ -77,7 +77,7 @@ impl Leaf<u32> for DayLeaf {
     }
 
     // In each kind, since each says besides what its leaf means.
-    #[tactic(auto, using(crate::proofs::Means::read_means, crate::proofs::Grammar::days_stand))]
+    #[tactic(auto, using(crate::proofs::Grammar::read_means, crate::proofs::Grammar::days_stand))]
     fn read(sheet: &[u8], start: usize, place: &mut DayLeaf) -> Result<usize, Fault>
         ensures reads { Fills (days.reading sheet.now start) place.old place.new result }
         ensures grammar { DaysStand }
