@@ -91,10 +91,11 @@ module _ {V L Role W : Type 0} (k : Kind V L) (laws : Laws k) (y : Layout Role W
   of_stretch n bytes g o v =
       let d : g.rest ≡ leaves_bytes k y v.leaves ++ drop o.start bytes = ap (drop 1) (sym g.bytes_are) ∙ v.bytes_are in
       let m = v.ends in
-      let e : o.start ≡ suc (length (leaves_bytes k y v.leaves)) = omega (arith, m) in
-      (
-        v.leaves, v.sound, v.leaves_are,
-        (λ i. take (e i) (g.bytes_are i)) ∙ ap (λ (xs : List ℕ). g.kind ∷ xs) (ap (take (length (leaves_bytes k y v.leaves))) d ∙ take_front (leaves_bytes k y v.leaves) (drop o.start bytes))
+      let e : o.start ≡ suc (length (leaves_bytes k y v.leaves)) = omega (arith, m) in (
+        v.leaves,
+        v.sound,
+        v.leaves_are,
+        (λ i. take (e i) (g.bytes_are i)) ∙ ap (λ (xs : List ℕ). g.kind ∷ xs) (ap (take (length (leaves_bytes k y v.leaves))) d ∙ take_front (leaves_bytes k y v.leaves) (drop o.start bytes)),
       )
 
   read_of : (n : ℕ) (bytes : List ℕ) (h : List L) → Bytes bytes → (g : Begins k n bytes) → (o : Outcome L) → Comes k n bytes h o → ReadAs bytes g.kind o
