@@ -1,0 +1,25 @@
+#!/bin/sh
+# Builds and runs the comparison: run.sh CRATE_FILES NUM_CRATES WHAT.. (README.md).
+set -e
+if [ $# -lt 3 ]; then
+  echo "usage: run.sh CRATE_FILES NUM_CRATES compare SEED COUNT | differences | answers | bench" >&2
+  exit 2
+fi
+CRATE_FILES=$(realpath "$1")
+NUM_CRATES=$(realpath "$2")
+shift 2
+cd "$(dirname "$0")"
+KIT_C=$(dirname "$(rt doc)")/c
+RULE_LINES_LIB=$(realpath ../crates/foreign)/out
+export CRATE_FILES KIT_C RULE_LINES_LIB
+(cd ../crates/foreign && rt lib >/dev/null)
+
+# Comparing runs with the crate's debug assertions, the benchmark without them.
+profile=checked
+[ "$1" = bench ] && profile=release
+build() {
+  cargo build --quiet --offline --profile "$profile" --target-dir "$1" $2 \
+    --config 'source.crates-io.replace-with="unpacked"' --config "source.unpacked.directory=\"$NUM_CRATES\""
+}
+build target ""
+exec "target/$profile/compare" "$@"
