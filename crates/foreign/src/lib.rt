@@ -4,7 +4,9 @@
 mod asking;
 mod lists;
 mod text;
+mod timing;
 
 pub use asking::rule_lines_admit;
 pub use lists::{Divisors, rule_lines_fold, rule_lines_thin};
 pub use text::{SheetText, rule_lines_print};
+pub use timing::{Timed, rule_lines_time};
