@@ -86,6 +86,9 @@ impl Fraction {
         if g == 0 {
             return Fraction { p: 0, q: 0 };
         }
+        if g == 1 {
+            return self;
+        }
         Fraction {
             p: self.p / g,
             q: self.q / g,
