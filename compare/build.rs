@@ -31,11 +31,17 @@ fn file_of(folder: &Path, name: &str) -> PathBuf {
 /// The lines from the one that begins with `first` up to the next that begins with `end`; that line alone where `end` is empty.
 fn part_of(text: &str, first: &str, end: &str) -> String {
     let lines: Vec<&str> = text.lines().collect();
-    let start = lines.iter().position(|line| line.starts_with(first)).unwrap_or_else(|| panic!("mod.rs: no '{first}'"));
+    let start = lines
+        .iter()
+        .position(|line| line.starts_with(first))
+        .unwrap_or_else(|| panic!("mod.rs: no '{first}'"));
     let count = if end.is_empty() {
         1
     } else {
-        lines[start..].iter().position(|line| line.starts_with(end)).unwrap_or_else(|| panic!("mod.rs: no '{end}'"))
+        lines[start..]
+            .iter()
+            .position(|line| line.starts_with(end))
+            .unwrap_or_else(|| panic!("mod.rs: no '{end}'"))
     };
     lines[start..start + count].join("\n") + "\n"
 }
@@ -58,7 +64,10 @@ fn main() {
 
     for folder in ["RULE_LINES_LIB", "KIT_C"] {
         println!("cargo:rerun-if-env-changed={folder}");
-        println!("cargo:rustc-link-search=native={}", env::var(folder).unwrap_or_else(|_| panic!("{folder} is not set")));
+        println!(
+            "cargo:rustc-link-search=native={}",
+            env::var(folder).unwrap_or_else(|_| panic!("{folder} is not set"))
+        );
     }
     println!("cargo:rerun-if-changed={}/libforeign.a", env::var("RULE_LINES_LIB").unwrap());
     println!("cargo:rustc-link-lib=static=foreign");

@@ -2,7 +2,7 @@
 # Builds and runs the comparison: run.sh CRATE_FILES NUM_CRATES WHAT.. (README.md).
 set -e
 if [ $# -lt 3 ]; then
-  echo "usage: run.sh CRATE_FILES NUM_CRATES compare SEED COUNT | differences | answers | bench" >&2
+  echo "usage: run.sh CRATE_FILES NUM_CRATES compare SEED COUNT | differences | answers SEED COUNT | bench SIZE" >&2
   exit 2
 fi
 CRATE_FILES=$(realpath "$1")
@@ -18,8 +18,15 @@ export CRATE_FILES KIT_C RULE_LINES_LIB
 profile=checked
 [ "$1" = bench ] && profile=release
 build() {
-  cargo build --quiet --offline --profile "$profile" --target-dir "$1" $2 \
+  cargo build --quiet --offline --profile "$profile" --target-dir "$@" \
     --config 'source.crates-io.replace-with="unpacked"' --config "source.unpacked.directory=\"$NUM_CRATES\""
 }
-build target ""
+build target
+if [ "$1" = differences ]; then
+  # The crate's other build too, whose numbers have 64 bits.
+  build target-64 --no-default-features
+  target/$profile/compare differences
+  echo
+  exec target-64/$profile/compare differences
+fi
 exec "target/$profile/compare" "$@"

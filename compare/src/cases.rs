@@ -23,9 +23,14 @@ fn divisor(random: &mut Random) -> Fraction {
         0 => any_size(random, LIMIT),
         1 => any_size(random, 1 << 20),
         2 => 1 + random.below(200),
-        _ => *random.pick(&[1, 2, 3, 4, 5, 6, 7, 8, 9, 10, 12, 14, 15, 18, 20, 21, 24, 25, 28, 30, 36, 50, 60, 100]),
+        _ => *random.pick(&[
+            1, 2, 3, 4, 5, 6, 7, 8, 9, 10, 12, 14, 15, 18, 20, 21, 24, 25, 28, 30, 36, 50, 60, 100,
+        ]),
     };
-    Fraction { p, q: *random.pick(&DENOMINATORS) }
+    Fraction {
+        p,
+        q: *random.pick(&DENOMINATORS),
+    }
 }
 
 /// Whether no join of the list passes the limit: each join's numerator divides the least common multiple of them all.
@@ -73,7 +78,10 @@ fn window(random: &mut Random, low: i64, high: i64) -> Window {
     let (a, b) = (random.within(low, high), random.within(low, high));
     let narrow = random.one_in(2).then(|| a.saturating_add(random.within(0, 6)).min(high));
     let (minimum, maximum) = (a.min(b), narrow.map_or(a.max(b), |end| end.max(a.min(b))));
-    Window { minimum: (!random.one_in(8)).then_some(minimum), maximum: (!random.one_in(8)).then_some(maximum) }
+    Window {
+        minimum: (!random.one_in(8)).then_some(minimum),
+        maximum: (!random.one_in(8)).then_some(maximum),
+    }
 }
 
 /// The span in which the windows of a list lie: mostly narrow, so that windows meet.
@@ -96,7 +104,11 @@ pub fn leaves(random: &mut Random) -> Vec<Leaf> {
     (0..count)
         .map(|_| {
             let (required, barred) = random.pick(&rules).clone();
-            let mut leaf = Leaf { window: window(random, low, high), required, barred };
+            let mut leaf = Leaf {
+                window: window(random, low, high),
+                required,
+                barred,
+            };
             if random.one_in(4) {
                 leaf.barred = Vec::new();
             }
@@ -122,7 +134,11 @@ pub fn values(random: &mut Random, leaves: &[Leaf]) -> Vec<i64> {
 
 /// Windows of days with one set of weekdays.
 pub fn days(random: &mut Random) -> (Vec<Window>, u8) {
-    let set = if random.one_in(3) { 1 << random.below(7) } else { 1 + random.below(127) } as u8;
+    let set = if random.one_in(3) {
+        1 << random.below(7)
+    } else {
+        1 + random.below(127)
+    } as u8;
     let (low, high) = match random.below(4) {
         0 => (0, days::LAST),
         1 => (0, 40),

@@ -28,7 +28,11 @@ fn same(input: impl Fn() -> String, ours: String, theirs: String) -> Result<(), 
     if ours == theirs {
         Ok(())
     } else {
-        Err(Difference { input: input(), ours, theirs })
+        Err(Difference {
+            input: input(),
+            ours,
+            theirs,
+        })
     }
 }
 
@@ -43,14 +47,23 @@ fn compare_list(random: &mut Random, counts: &mut Counts) -> Result<(), Differen
     let (told, text) = ours::print(&bytes);
     let read = theirs::Read::of(&leaves);
     same(|| format!("leaves{}", leaves_text(&leaves)), text.clone(), read.text())?;
-    assert!(told.refusal == 0 && told.accepted == leaves.len(), "a sheet of the domain was refused");
+    assert!(
+        told.refusal == 0 && told.accepted == leaves.len(),
+        "a sheet of the domain was refused"
+    );
     counts.lists += 1;
     counts.leaves += leaves.len() as u64;
     counts.lines += text.lines().count() as u64;
     for value in cases::values(random, &leaves) {
         for is_read in [false, true] {
             let (mine, other) = (ours::admit(&bytes, value, is_read), read.admits(value, is_read));
-            let input = || format!("{value}, {}, leaves{}", if is_read { "of lines" } else { "of leaves" }, leaves_text(&leaves));
+            let input = || {
+                format!(
+                    "{value}, {}, leaves{}",
+                    if is_read { "of lines" } else { "of leaves" },
+                    leaves_text(&leaves)
+                )
+            };
             same(input, mine.to_string(), other.to_string())?;
             counts.questions += 1;
         }
@@ -64,8 +77,16 @@ fn kept_text(kept: Result<Vec<Fraction>, u8>) -> String {
 
 fn compare_fold(random: &mut Random, counts: &mut Counts) -> Result<(), Difference> {
     let (required, barred) = (cases::list(random), cases::list(random));
-    same(|| format!("required {}", list_text(&required)), kept_text(ours::fold(&required)), theirs::fold(&required))?;
-    same(|| format!("barred {}", list_text(&barred)), kept_text(ours::thin(&barred)), theirs::thin(&barred))?;
+    same(
+        || format!("required {}", list_text(&required)),
+        kept_text(ours::fold(&required)),
+        theirs::fold(&required),
+    )?;
+    same(
+        || format!("barred {}", list_text(&barred)),
+        kept_text(ours::thin(&barred)),
+        theirs::thin(&barred),
+    )?;
     counts.folds += 1;
     counts.thinned += 1;
     Ok(())
@@ -77,7 +98,11 @@ fn compare_large_fold(random: &mut Random, counts: &mut Counts) -> Result<(), Di
     serde_json::limit::set(true);
     let other = theirs::fold(&list);
     serde_json::limit::set(false);
-    same(|| format!("required, under a limit, {}", list_text(&list)), kept_text(ours::fold(&list)), other)?;
+    same(
+        || format!("required, under a limit, {}", list_text(&list)),
+        kept_text(ours::fold(&list)),
+        other,
+    )?;
     counts.large_folds += 1;
     Ok(())
 }

@@ -42,5 +42,8 @@ pub fn is_in(set: u8, day: i64) -> bool {
 
 /// The weekdays of a set as a line has them, 1 for Monday.
 pub fn weekdays_text(set: u8) -> String {
-    (0..7u8).filter(|bit| set >> bit & 1 == 1).map(|bit| char::from(b'1' + bit)).collect()
+    (0..7u8)
+        .filter(|bit| set >> bit & 1 == 1)
+        .map(|bit| char::from(b'1' + bit))
+        .collect()
 }

@@ -49,6 +49,13 @@ pub fn bound_text(bound: Option<impl fmt::Display>) -> String {
 impl fmt::Display for Leaf {
     fn fmt(&self, f: &mut fmt::Formatter<'_>) -> fmt::Result {
         let Window { minimum, maximum } = self.window;
-        write!(f, "{} {} {} {}", bound_text(minimum), bound_text(maximum), list_text(&self.required), list_text(&self.barred))
+        write!(
+            f,
+            "{} {} {} {}",
+            bound_text(minimum),
+            bound_text(maximum),
+            list_text(&self.required),
+            list_text(&self.barred)
+        )
     }
 }

@@ -21,11 +21,23 @@ pub struct SheetText {
     pub length: usize,
 }
 
+/// What a run of a list came to, and what each part took in nanoseconds: making, inserting, asking, the first reading, one more.
+#[repr(C)]
+#[derive(Clone, Copy, Debug)]
+pub struct Timed {
+    pub done: bool,
+    pub leaves: usize,
+    pub yes: usize,
+    pub lines: usize,
+    pub parts: [u64; 5],
+}
+
 extern "C" {
     fn rule_lines_fold(written: *const Fraction, count: usize) -> Divisors;
     fn rule_lines_thin(written: *const Fraction, count: usize) -> Divisors;
     fn rule_lines_print(sheet: *const u8, bytes: usize, out: *mut u8, room: usize) -> SheetText;
     fn rule_lines_admit(sheet: *const u8, bytes: usize, value: i64, read: bool) -> bool;
+    fn rule_lines_time(places: usize, leaves: *const u8, bytes: usize, values: *const i64, count: usize) -> Timed;
 }
 
 fn kept(list: Divisors) -> Result<Vec<Fraction>, u8> {
@@ -61,4 +73,12 @@ pub fn print(sheet: &[u8]) -> (SheetText, String) {
 pub fn admit(sheet: &[u8], value: i64, read: bool) -> bool {
     // SAFETY: as in `fold`.
     unsafe { rule_lines_admit(sheet.as_ptr(), sheet.len(), value, read) }
+}
+
+/// A run of a list of so many places on the leaves that the bytes hold, timed.
+pub fn time(places: usize, leaves: &[u8], values: &[i64]) -> Timed {
+    // SAFETY: each pointer goes with the length of its slice, which the call only reads.
+    let timed = unsafe { rule_lines_time(places, leaves.as_ptr(), leaves.len(), values.as_ptr(), values.len()) };
+    assert!(timed.done, "out of memory");
+    timed
 }

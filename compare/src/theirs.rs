@@ -37,7 +37,10 @@ fn fraction_text(number: &Number) -> String {
     let Some((whole, part)) = number.as_str().split_once('.') else {
         return number.to_string();
     };
-    let (mut p, mut q) = (format!("{whole}{part}").parse::<u128>().expect("digits"), 10u128.pow(part.len() as u32));
+    let (mut p, mut q) = (
+        format!("{whole}{part}").parse::<u128>().expect("digits"),
+        10u128.pow(part.len() as u32),
+    );
     for prime in [2, 5] {
         while p % prime == 0 && q % prime == 0 {
             p /= prime;
@@ -61,7 +64,10 @@ fn required(list: &[Fraction]) -> Divisors {
 }
 
 fn barred(list: &[Fraction]) -> ExcludedDivisors {
-    list.iter().map(|f| ExcludedDivisors::one(divisor(*f))).reduce(ExcludedDivisors::intersect).unwrap_or_default()
+    list.iter()
+        .map(|f| ExcludedDivisors::one(divisor(*f)))
+        .reduce(ExcludedDivisors::intersect)
+        .unwrap_or_default()
 }
 
 fn bound(value: i64) -> BoundInteger {
@@ -72,7 +78,10 @@ fn bound(value: i64) -> BoundInteger {
 pub fn leaf_of(leaf: &Leaf) -> IntegerLeaf {
     let Window { minimum, maximum } = leaf.window;
     IntegerLeaf {
-        bounds: Bounds { minimum: minimum.map(bound), maximum: maximum.map(bound) },
+        bounds: Bounds {
+            minimum: minimum.map(bound),
+            maximum: maximum.map(bound),
+        },
         multiple_of: required(&leaf.required),
         not_multiple_of: barred(&leaf.barred),
     }
@@ -96,7 +105,11 @@ pub fn thin(written: &[Fraction]) -> String {
 fn line_text(line: &IntegerLeaf) -> String {
     let bound = |bound: &Option<BoundInteger>| bound_text(bound.as_ref().map(BoundInteger::to_number));
     let (low, high) = (bound(&line.bounds.minimum), bound(&line.bounds.maximum));
-    format!("{low} {high} {} {}\n", divisors_text(line.multiple_of.as_slice()), divisors_text(line.not_multiple_of.as_slice()))
+    format!(
+        "{low} {high} {} {}\n",
+        divisors_text(line.multiple_of.as_slice()),
+        divisors_text(line.not_multiple_of.as_slice())
+    )
 }
 
 /// A list of the crate: its leaves as they came, and its lines.
@@ -107,7 +120,9 @@ pub struct Read {
 
 /// Whether one of the leaves admits the value.
 pub fn any_admits(leaves: &[IntegerLeaf], value: &BoundInteger, number: &Number) -> bool {
-    leaves.iter().any(|leaf| leaf.bounds.contains(value) && leaf.multiple_of.divide(number) && !leaf.not_multiple_of.bars(number))
+    leaves
+        .iter()
+        .any(|leaf| leaf.bounds.contains(value) && leaf.multiple_of.divide(number) && !leaf.not_multiple_of.bars(number))
 }
 
 impl Read {
@@ -118,7 +133,10 @@ impl Read {
         for leaf in &leaves {
             list.insert(leaf.clone());
         }
-        Self { leaves, lines: list.as_slice().to_vec() }
+        Self {
+            leaves,
+            lines: list.as_slice().to_vec(),
+        }
     }
 
     /// The lines as text.
@@ -156,7 +174,13 @@ impl Discrete for Day {
 
 /// The windows of days of one set merged by the crate, as lines of days.
 pub fn merge_days(windows: &[Window], set: u8) -> String {
-    let windows = windows.iter().map(|w| Bounds { minimum: w.minimum.map(Day), maximum: w.maximum.map(Day) }).collect();
+    let windows = windows
+        .iter()
+        .map(|w| Bounds {
+            minimum: w.minimum.map(Day),
+            maximum: w.maximum.map(Day),
+        })
+        .collect();
     let is_vacant = |end: &Day, start: &Day| (end.0 + 1..start.0).all(|day| !days::is_in(set, day));
     let text = |day: &Option<Day>| bound_text(day.as_ref().map(|day| days::date_text(day.0)));
     Bounds::merge_all_across_vacant_gaps(windows, is_vacant)

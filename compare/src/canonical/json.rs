@@ -2,7 +2,11 @@
 
 /// The shortest text of a decimal, where that is another.
 pub(crate) fn canonical_number(text: &str) -> Option<String> {
-    let shorter = if text.contains('.') { text.trim_end_matches('0').trim_end_matches('.') } else { text };
+    let shorter = if text.contains('.') {
+        text.trim_end_matches('0').trim_end_matches('.')
+    } else {
+        text
+    };
     let shorter = if shorter == "-0" { "0" } else { shorter };
     (shorter != text).then(|| shorter.to_owned())
 }

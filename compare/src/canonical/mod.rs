@@ -27,7 +27,10 @@ mod bound_number {
 
     impl BoundNumber {
         pub(crate) fn new(limit: &Number, inclusive: bool) -> Self {
-            Self { limit: limit.clone(), inclusive }
+            Self {
+                limit: limit.clone(),
+                inclusive,
+            }
         }
 
         pub(crate) fn to_number(&self) -> Number {

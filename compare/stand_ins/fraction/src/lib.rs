@@ -38,7 +38,11 @@ impl BigFraction {
     /// The caller gives it in lowest terms.
     pub fn new_raw_signed(sign: Sign, numerator: BigUint, denominator: BigUint) -> Self {
         let sign = if numerator.is_zero() { Sign::Plus } else { sign };
-        Self { sign, numerator, denominator }
+        Self {
+            sign,
+            numerator,
+            denominator,
+        }
     }
 
     pub fn numer(&self) -> Option<&BigUint> {
@@ -67,7 +71,11 @@ impl BigFraction {
 
     /// A whole number.
     pub fn whole(value: BigInt) -> Self {
-        let sign = if value.sign() == num_bigint::Sign::Minus { Sign::Minus } else { Sign::Plus };
+        let sign = if value.sign() == num_bigint::Sign::Minus {
+            Sign::Minus
+        } else {
+            Sign::Plus
+        };
         Self::new_raw_signed(sign, value.magnitude().clone(), BigUint::one())
     }
 

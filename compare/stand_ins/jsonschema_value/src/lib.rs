@@ -30,7 +30,10 @@ pub mod numeric_check {
         if let (Ok(limit), Some(value)) = (limit.as_str().parse::<u64>(), value.as_i64()) {
             return value.unsigned_abs() % limit == 0;
         }
-        let (limit, value) = (try_parse_bigfraction(limit).expect("a decimal"), try_parse_bigfraction(value).expect("a decimal"));
+        let (limit, value) = (
+            try_parse_bigfraction(limit).expect("a decimal"),
+            try_parse_bigfraction(value).expect("a decimal"),
+        );
         let (p, q) = (limit.numer().unwrap(), limit.denom().unwrap());
         let (r, s) = (value.numer().unwrap(), value.denom().unwrap());
         (r * q).mod_floor(&(s * p)).is_zero()
