@@ -63,6 +63,9 @@ pub gcd_zero : (a : ℕ) → gcd_of a 0 ≡ a
 unfolding gcd_of gcd_in
 gcd_zero a = refl
 
+pub gcd_one : (a : ℕ) → gcd_of a 1 ≡ 1
+gcd_one a = eq-one_of_dvd-one (gcd_is a 1).right
+
 pub gcd_comm : (a b : ℕ) → gcd_of a b ≡ gcd_of b a
 gcd_comm a b =
     let u = gcd_is a b in

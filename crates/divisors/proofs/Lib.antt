@@ -26,3 +26,4 @@ pub mod Makes
 pub mod Again
 pub mod Padded
 pub mod Lawful
+pub mod Single

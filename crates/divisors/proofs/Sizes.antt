@@ -48,3 +48,15 @@ unturned p q r s hq hs o =
       | Equal ↦ λ _ n. absurd (n refl)
       | Greater ↦ λ h _. less r s p q hs hq h
     ]
+
+-- with like parts below, those above decide
+pub liked :
+    (p q r s : ℕ) → 0 < q → q ≡ s → (o : Ordering) → MatchOrdering o (p < r) (p ≡ r) (r < p) →
+    MatchOrdering o (p * s < r * q) (p * s ≡ r * q) (r * q < p * s)
+liked p q r s hq e o =
+    let u : p * s ≡ p * q = ap (λ (x : ℕ). p * x) (sym e) in
+    elim o as (λ k. MatchOrdering k (p < r) (p ≡ r) (r < p) → MatchOrdering k (p * s < r * q) (p * s ≡ r * q) (r * q < p * s)) [
+      | Less ↦ λ h. let l : p * q < r * q = mul-lt-mul_of_pos_right h hq in omega (arith, u, l)
+      | Equal ↦ λ h. u ∙ ap (λ (x : ℕ). x * q) h
+      | Greater ↦ λ h. let l : r * q < p * q = mul-lt-mul_of_pos_right h hq in omega (arith, u, l)
+    ]

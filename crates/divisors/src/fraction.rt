@@ -7,7 +7,8 @@ use crate::refusal::Refusal;
 use crate::whole::{LARGEST, gcd, is_multiple, lcm, order, stripped};
 use std::cmp::Ordering;
 
-// A fraction p/q, as written or in lowest terms.
+// A fraction p/q, as written or in lowest terms; laid out as in C, for callers there.
+#[repr(C)]
 #[derive(Clone, Copy, PartialEq, Eq, Debug)]
 pub struct Fraction {
     pub p: u64,
@@ -84,6 +85,9 @@ impl Fraction {
         let g = gcd(self.p, self.q);
         if g == 0 {
             return Fraction { p: 0, q: 0 };
+        }
+        if g == 1 {
+            return self;
         }
         Fraction {
             p: self.p / g,

@@ -1,9 +1,9 @@
 ghost use Rattle.divisors.specs.Dividing.{bars_no_more, divide_all};
 ghost use Rattle.divisors.specs.Fractions.{is_multiple};
 ghost use Rattle.divisors.specs.Laws.{BarredLaws, OrderLaws, RequiredLaws};
-ghost use Rattle.divisors.specs.Lists.{at_most, every, sole_of, some};
+ghost use Rattle.divisors.specs.Lists.{at_most, every, sole_of, some, tidy_of};
 ghost use Rattle.divisors.specs.Rows.{fractions, padded};
-ghost use Rattle.divisors.specs.Written.{refused};
+ghost use Rattle.divisors.specs.Written.{lowest_above, refused};
 ghost use Rattle.std.specs.Prelude.{◌≡◌, ◌≤◌, true, [], ◌∷◌, ◌++◌, length, if◌then◌else◌, nat_lt, OnErr, OnOk, unsigned_abs};
 
 use crate::fraction::Fraction;
@@ -32,6 +32,22 @@ impl Row {
         Row {
             items: [NONE; PLACES],
             count: 0,
+        }
+    }
+
+    // One divisor as written, in lowest terms; none where its numerator is not above `above`.
+    pub(crate) fn single(w: Fraction, above: u64) -> Row
+        ensures row { fractions result ≡ tidy_of (lowest_above above (w ∷ [])) }
+        ensures few { length (fractions result) ≤ 1 }
+        ensures padded { padded result ≡ true }
+    {
+        let f = w.lowest_terms();
+        if f.p <= above {
+            return Row::empty();
+        }
+        Row {
+            items: [f, NONE, NONE, NONE, NONE, NONE],
+            count: 1,
         }
     }
 

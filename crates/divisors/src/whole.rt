@@ -15,7 +15,11 @@ pub(crate) fn gcd(a: u64, b: u64) -> u64
     ensures value { result ≡ gcd_of a b }
     ensures greatest { IsGcd a b result }
 {
-    if b == 0 { a } else { gcd(b, a % b) }
+    match b {
+        0 => a,
+        1 => 1,
+        _ => gcd(b, a % b),
+    }
 }
 
 // The least common multiple, or nothing where it exceeds 2^63 - 1.
@@ -62,13 +66,20 @@ pub(crate) fn is_multiple(n: u64, p: u64, q: u64) -> bool
     if p == 0 {
         return n == 0 || q == 0;
     }
+    if q == 1 {
+        return n % p == 0;
+    }
     n % (p / gcd(p, q)) == 0
 }
 
-// The order of p * s against r * q, with no product: whole parts first, then the remainders, turned over.
+// The order of p * s against r * q, with no product: of like parts the other two decide, else whole parts first, then the remainders, turned
+// over.
 pub(crate) fn order(p: u64, q: u64, r: u64, s: u64) -> Ordering
     ensures { MatchOrdering result (p * s < r * q) (p * s ≡ r * q) (r * q < p * s) }
 {
+    if q == s && q != 0 {
+        return p.cmp(&r);
+    }
     if q == 0 {
         return sign(p, s);
     }

@@ -35,13 +35,16 @@ pub(crate) fn check_list(ws: &[Fraction]) -> Result<(), Refusal>
     check(ws, &[])
 }
 
-// The folded row of divisors as written.
+// The folded row of divisors as written. One alone, as most lists are, needs no working list.
 pub(crate) fn folded_row(ws: &[Fraction]) -> Row
     requires { (are_in_range ws.now ≡ true) × (length ws.now ≤ 6) }
     ensures folds { FoldOf ws.now (fractions result) }
     ensures kept { is_folded result ≡ true }
     ensures worked { WorkedFolds }
 {
+    if let [w] = ws {
+        return Row::single(*w, 1);
+    }
     let mut work = Working::of_written(ws, 1);
     work.fold();
     work.row()
@@ -53,6 +56,9 @@ pub(crate) fn thinned_row(ws: &[Fraction]) -> Row
     ensures thins { ThinOf ws.now (fractions result) }
     ensures kept { is_thinned result ≡ true }
 {
+    if let [w] = ws {
+        return Row::single(*w, 0);
+    }
     let mut work = Working::of_written(ws, 0);
     work.thin();
     work.row()

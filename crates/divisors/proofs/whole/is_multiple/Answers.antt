@@ -7,8 +7,8 @@ use Rattle.divisors.proofs.whole.is_multiple.Goals as goal
 pub nonzero_div-result : goal.nonzero_div-result
 nonzero_div-result c = subst (λ (x : ℕ). 0 < x) (sym c.gcd.ensures.value) (gcd_pos c.args.p c.args.q (omega arith))
 
-pub nonzero_rem-result : goal.nonzero_rem-result
-nonzero_rem-result c =
+pub nonzero_rem-result-2 : goal.nonzero_rem-result-2
+nonzero_rem-result-2 c =
     subst (λ (x : ℕ). 0 < c.args.p / x) (sym c.gcd.ensures.value)
     (quotient_pos c.args.p (gcd_of c.args.p c.args.q) (omega arith) (gcd_is c.args.p c.args.q).left)
 

@@ -1,0 +1,84 @@
+//! The static library of this repository.
+use crate::leaf::Fraction;
+
+#[repr(C)]
+#[derive(Clone, Copy)]
+struct Divisors {
+    places: [Fraction; 6],
+    count: usize,
+    refusal: u8,
+}
+
+/// What a sheet came to. `done` is false where memory ran out.
+#[repr(C)]
+#[derive(Clone, Copy, Debug)]
+pub struct SheetText {
+    pub done: bool,
+    pub accepted: usize,
+    pub start: usize,
+    pub refusal: u8,
+    pub byte: usize,
+    pub length: usize,
+}
+
+/// What a run of a list came to, and what each part took in nanoseconds: making, inserting, asking, the first reading, one more.
+#[repr(C)]
+#[derive(Clone, Copy, Debug)]
+pub struct Timed {
+    pub done: bool,
+    pub leaves: usize,
+    pub yes: usize,
+    pub lines: usize,
+    pub parts: [u64; 5],
+}
+
+extern "C" {
+    fn rule_lines_fold(written: *const Fraction, count: usize) -> Divisors;
+    fn rule_lines_thin(written: *const Fraction, count: usize) -> Divisors;
+    fn rule_lines_print(sheet: *const u8, bytes: usize, out: *mut u8, room: usize) -> SheetText;
+    fn rule_lines_admit(sheet: *const u8, bytes: usize, value: i64, read: bool) -> bool;
+    fn rule_lines_time(places: usize, leaves: *const u8, bytes: usize, values: *const i64, count: usize) -> Timed;
+}
+
+fn kept(list: Divisors) -> Result<Vec<Fraction>, u8> {
+    match list.refusal {
+        0 => Ok(list.places[..list.count].to_vec()),
+        number => Err(number),
+    }
+}
+
+/// The folded list of required divisors, or the number of the refusal.
+pub fn fold(written: &[Fraction]) -> Result<Vec<Fraction>, u8> {
+    // SAFETY: the pointer and the length are those of a slice, which the call only reads.
+    kept(unsafe { rule_lines_fold(written.as_ptr(), written.len()) })
+}
+
+/// The thinned list of barred divisors, or the number of the refusal.
+pub fn thin(written: &[Fraction]) -> Result<Vec<Fraction>, u8> {
+    // SAFETY: as in `fold`.
+    kept(unsafe { rule_lines_thin(written.as_ptr(), written.len()) })
+}
+
+/// What a sheet comes to, and its text.
+pub fn print(sheet: &[u8]) -> (SheetText, String) {
+    let mut out = vec![0; 128 * 600 + 600];
+    // SAFETY: each pointer goes with the length of its slice, and `out` is lent for writing alone.
+    let told = unsafe { rule_lines_print(sheet.as_ptr(), sheet.len(), out.as_mut_ptr(), out.len()) };
+    assert!(told.done && told.length <= out.len(), "out of memory or room");
+    out.truncate(told.length);
+    (told, String::from_utf8(out).expect("a text"))
+}
+
+/// Whether a leaf of the sheet admits the amount; with `read` whether a line does.
+pub fn admit(sheet: &[u8], value: i64, read: bool) -> bool {
+    // SAFETY: as in `fold`.
+    unsafe { rule_lines_admit(sheet.as_ptr(), sheet.len(), value, read) }
+}
+
+/// A run of a list of so many places on the leaves that the bytes hold, timed.
+pub fn time(places: usize, leaves: &[u8], values: &[i64]) -> Timed {
+    // SAFETY: each pointer goes with the length of its slice, which the call only reads.
+    let timed = unsafe { rule_lines_time(places, leaves.as_ptr(), leaves.len(), values.as_ptr(), values.len()) };
+    assert!(timed.done, "out of memory");
+    timed
+}

@@ -1,0 +1,12 @@
+// The library for callers in C: numbers and slices go in, numbers and bytes come out, and every table is of the call itself.
+#![tactic(auto)]
+
+mod asking;
+mod lists;
+mod text;
+mod timing;
+
+pub use asking::rule_lines_admit;
+pub use lists::{Divisors, rule_lines_fold, rule_lines_thin};
+pub use text::{SheetText, rule_lines_print};
+pub use timing::{Timed, rule_lines_time};
