@@ -28,7 +28,7 @@ spelled_leaf (f ∷ ns) = f ∷ spelled ns
 
 -- the refusals of single fields: 4 to 9 without 8
 abbrev pub is_of_field : ℕ → Bool
-is_of_field n = nat_le 4 n && not (n == 8)
+is_of_field n = nat_le 4 n && (nat_le n 9 && not (n == 8))
 
 module _ {Role W L : Type 0} (y : Layout Role W L) where
   abbrev pub bytes_of : W → List ℕ

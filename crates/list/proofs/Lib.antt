@@ -18,3 +18,4 @@ pub mod Steps
 pub mod Feeds
 pub mod Outcomes
 pub mod Encoded
+pub mod Stops

@@ -4,4 +4,5 @@ pub mod Readings
 pub mod Runs
 pub mod Outcomes
 pub mod Encoded
+pub mod Stops
 pub mod Held

@@ -1,5 +1,6 @@
 -- Sheets of either kind in bytes.
 use Rattle.list.proofs.Encoded.{encoded_sheets}
+use Rattle.list.proofs.Stops.{all_stops}
 use Rattle.amounts.specs.Amounts.{amounts}
 use Rattle.amounts.specs.Grammar.{amount_layout}
 use Rattle.amounts.specs.Shows.{amounts_laws}
@@ -13,6 +14,8 @@ use Rattle.sheets.specs.Encoded.{SheetsInBytes}
 pub sheets_in_bytes : SheetsInBytes
 unfolding SheetsInBytes
 sheets_in_bytes = record {
-  of_amounts = encoded_sheets amounts amounts_laws amount_layout amount_grammar;
-  of_days = encoded_sheets days days_laws day_layout day_grammar;
+  amount_sheets = encoded_sheets amounts amounts_laws amount_layout amount_grammar;
+  day_sheets = encoded_sheets days days_laws day_layout day_grammar;
+  amount_stops = all_stops amounts amounts_laws amount_layout amount_grammar;
+  day_stops = all_stops days days_laws day_layout day_grammar;
 }
