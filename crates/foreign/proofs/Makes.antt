@@ -6,7 +6,7 @@ use Rattle.leaf.specs.Faults.{Answer, found, refused, Fills}
 use Rattle.leaf.specs.Kind.{Kind, Laws, Lawful, WellRead}
 use Rattle.list.specs.Lists.{All}
 use Rattle.list.specs.Sheets.{judged}
-use Rattle.foreign.specs.Timed.{made_of}
+use Rattle.foreign.specs.Running.{made_of}
 
 module _ {V L : Type 0} (k : Kind V L) (bytes : List ℕ) where
   abbrev met : ℕ → Answer L → List L

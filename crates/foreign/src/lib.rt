@@ -3,10 +3,10 @@
 
 mod asking;
 mod lists;
+mod running;
 mod text;
-mod timing;
 
 pub use asking::rule_lines_admit;
 pub use lists::{Divisors, rule_lines_fold, rule_lines_thin};
+pub use running::{Run, rule_lines_make, rule_lines_run};
 pub use text::{SheetText, rule_lines_print};
-pub use timing::{Timed, rule_lines_time};

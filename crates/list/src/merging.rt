@@ -16,13 +16,12 @@ pub(crate) fn merge_held<V: Copy, L: Leaf<V>>(held: &mut [L]) -> usize
     }
     let mut w = 0;
     for r in 1..held.len() {
-        let last = held[w];
-        let next = held[r];
-        if adjoins(&last, &next) {
-            held[w] = join(&last, &next);
+        let (last, next) = (&held[w], &held[r]);
+        if adjoins(last, next) {
+            held[w] = join(last, next);
         } else {
             w += 1;
-            held[w] = next;
+            held[w] = held[r];
         }
     }
     w + 1

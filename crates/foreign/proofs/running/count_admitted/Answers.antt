@@ -4,7 +4,7 @@ use Rattle.leaf.specs.Kind.{admits}
 use Rattle.list.specs.Held.{held_of}
 use Rattle.list.specs.Lists.{any}
 use Rattle.foreign.proofs.Counting.{one_or_none}
-use Rattle.foreign.proofs.timing.count_admitted.Goals as goal
+use Rattle.foreign.proofs.running.count_admitted.Goals as goal
 
 pub loop-v-preserved : goal.loop-v-preserved
 loop-v-preserved g c =

@@ -1,7 +1,7 @@
 ghost use Rattle.amounts.specs.Amounts.{amounts};
-ghost use Rattle.foreign.specs.Timed.{Counts, made_of};
+ghost use Rattle.foreign.specs.Running.{Counts, made_of, read_or_none};
 ghost use Rattle.leaf.specs.Kind.{Lawful, admits as admitted};
-ghost use Rattle.list.specs.Held.{Leads, SameTable, held_of};
+ghost use Rattle.list.specs.Held.{Leads, SameTable, Settled, held_of};
 ghost use Rattle.list.specs.Lists.{All, any};
 ghost use Rattle.list.specs.Runs.{Call};
 ghost use Rattle.list.specs.Runs.Call.{insert};
@@ -12,34 +12,23 @@ use leaf::Leaf;
 use list::Leaves;
 use std::alloc::{AllocError, Global};
 
-// What a run of a list came to, and the nanoseconds that each part of it took. Where memory ran out, `done` is false and nothing else is told.
+// What a run of a list came to. Where memory ran out, `done` is false and nothing else is told.
 #[repr(C)]
 #[derive(Clone, Copy)]
-pub struct Timed {
+pub struct Run {
     pub done: bool,
     pub leaves: usize,
     pub yes: usize,
     pub lines: usize,
-    // Reading the leaves of bytes, inserting them, asking, the first reading, and one more.
-    pub making: u64,
-    pub inserting: u64,
-    pub asking: u64,
-    pub reading: u64,
-    pub reading_again: u64,
 }
 
-// The machine's clock in nanoseconds.
-fn nanoseconds() -> u64 {
-    let mut time = libc::types::timespec {
-        tv_sec: 0,
-        tv_nsec: 0,
-    };
-    let _ = libc::clock_gettime(libc::CLOCK_MONOTONIC, &mut time);
-    let seconds = time.tv_sec.unsigned_abs();
-    seconds
-        .wrapping_mul(1_000_000_000)
-        .wrapping_add(time.tv_nsec.unsigned_abs())
-}
+// What is told where memory ran out.
+const NOT_DONE: Run = Run {
+    done: false,
+    leaves: 0,
+    yes: 0,
+    lines: 0,
+};
 
 // Reads the leaves that stand one after the other into the table, up to the end of either or a refusal, and answers how many.
 fn read_leaves<V: Copy, L: Leaf<V>>(bytes: &[u8], table: &mut [L]) -> usize
@@ -82,75 +71,91 @@ fn count_admitted<V: Copy, L: Leaf<V>>(list: &mut Leaves<V, L>, values: &[V]) ->
     yes
 }
 
-// A list in the table takes the leaves of the bytes, answers the questions and is read twice.
-fn time_run<V: Copy, L: Leaf<V>>(
+// Reads the list so many times, and answers how many lines the first reading left.
+fn read_lines<V: Copy, L: Leaf<V>>(list: &mut Leaves<V, L>, readings: usize) -> usize
+    ensures { Settled L.kind list.old → result ≡ read_or_none L.kind readings (held_of list.old) }
+{
+    if readings == 0 {
+        return 0;
+    }
+    let lines = list.count();
+    for _ in 1..readings {
+        let _ = list.count();
+    }
+    lines
+}
+
+// A list in the table takes the leaves of the bytes, answers the questions and is read so many times.
+fn run_list<V: Copy, L: Leaf<V>>(
     made: &mut [L],
     table: &mut [L],
     bytes: &[u8],
     values: &[V],
-) -> Timed
+    readings: usize,
+) -> Run
     requires { length made.old ≡ length table.old }
-    ensures { Counts L.kind (length table.old) bytes.now values.now result }
+    ensures { Counts L.kind (length table.old) bytes.now values.now readings result }
 {
-    let at_start = nanoseconds();
     let leaves = read_leaves(bytes, made);
-    let at_made = nanoseconds();
     let mut list = Leaves::open(table);
     insert_leaves(&mut list, &made[..leaves]);
-    let at_inserted = nanoseconds();
     let yes = count_admitted(&mut list, values);
-    let at_asked = nanoseconds();
-    let lines = list.count();
-    let at_read = nanoseconds();
-    let _ = list.count();
-    let at_end = nanoseconds();
-    Timed {
+    let lines = read_lines(&mut list, readings);
+    Run {
         done: true,
         leaves,
         yes,
         lines,
-        making: at_made.wrapping_sub(at_start),
-        inserting: at_inserted.wrapping_sub(at_made),
-        asking: at_asked.wrapping_sub(at_inserted),
-        reading: at_read.wrapping_sub(at_asked),
-        reading_again: at_end.wrapping_sub(at_read),
     }
 }
 
-// The same for amounts, in tables on the heap.
-fn time_amounts(
+// The leaves of amounts in the bytes read into a table on the heap.
+fn make_amounts(heap: Global, places: usize, bytes: &[u8]) -> Result<Run, AllocError>
+    ensures { IfOk result (λ r. r.leaves ≡ length (made_of amounts places bytes.now 0)) }
+{
+    let mut made = Vec::from_elem(heap, AmountLeaf::blank(), places)?;
+    Ok(Run {
+        done: true,
+        leaves: read_leaves(bytes, &mut made),
+        yes: 0,
+        lines: 0,
+    })
+}
+
+// A list of amounts run in tables on the heap.
+fn run_amounts(
     heap: Global,
     places: usize,
     bytes: &[u8],
     values: &[i64],
-) -> Result<Timed, AllocError>
-    ensures { IfOk result (λ t. Counts amounts places bytes.now values.now t) }
+    readings: usize,
+) -> Result<Run, AllocError>
+    ensures { IfOk result (λ r. Counts amounts places bytes.now values.now readings r) }
 {
     let mut made = Vec::from_elem(heap, AmountLeaf::blank(), places)?;
     let mut table = Vec::from_elem(heap, AmountLeaf::blank(), places)?;
-    Ok(time_run(&mut made, &mut table, bytes, values))
+    Ok(run_list(&mut made, &mut table, bytes, values, readings))
 }
 
-// Amount leaves that stand one after the other in the bytes go into a new list of so many places, then come the questions and two readings:
-// how many leaves, yeses and lines there were, and what each part took.
+// How many amount leaves stand one after the other in the bytes, at most so many as there are places: what a run begins with, for who times one.
 #[unsafe(no_mangle)]
-pub extern "C" fn rule_lines_time(
+pub extern "C" fn rule_lines_make(heap: Global, places: usize, bytes: &[u8]) -> Run
+    ensures { result.done ≡ true → result.leaves ≡ length (made_of amounts places bytes.now 0) }
+{
+    make_amounts(heap, places, bytes).unwrap_or(NOT_DONE)
+}
+
+// Amount leaves that stand one after the other in the bytes go into a new list of so many places, then come the questions, then so many readings:
+// how many leaves, yeses and lines there were.
+#[unsafe(no_mangle)]
+pub extern "C" fn rule_lines_run(
     heap: Global,
     places: usize,
     bytes: &[u8],
     values: &[i64],
-) -> Timed
-    ensures { result.done ≡ true → Counts amounts places bytes.now values.now result }
+    readings: usize,
+) -> Run
+    ensures { result.done ≡ true → Counts amounts places bytes.now values.now readings result }
 {
-    time_amounts(heap, places, bytes, values).unwrap_or(Timed {
-        done: false,
-        leaves: 0,
-        yes: 0,
-        lines: 0,
-        making: 0,
-        inserting: 0,
-        asking: 0,
-        reading: 0,
-        reading_again: 0,
-    })
+    run_amounts(heap, places, bytes, values, readings).unwrap_or(NOT_DONE)
 }

@@ -1,6 +1,6 @@
 use Rattle.std.proofs.Common.{◌≡◌, ◌++◌, ◌-◌, length, take}
-use Rattle.foreign.specs.Timed.{made_of}
-use Rattle.foreign.proofs.timing.read_leaves.Given as goal
+use Rattle.foreign.specs.Running.{made_of}
+use Rattle.foreign.proofs.running.read_leaves.Given as goal
 
 abbrev pub invariant-loop-n : goal.invariant-loop-n
 invariant-loop-n g l =

@@ -1,6 +1,6 @@
 use Rattle.std.proofs.Common.{◌∙◌, rules}
 use Rattle.foreign.proofs.Makes.{made_all, made_more}
-use Rattle.foreign.proofs.timing.read_leaves.Goals as goal
+use Rattle.foreign.proofs.running.read_leaves.Goals as goal
 
 pub returns-in-Err-clause-made : goal.returns-in-Err-clause-made
 returns-in-Err-clause-made g c =

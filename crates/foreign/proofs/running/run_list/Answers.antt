@@ -3,11 +3,11 @@ use Rattle.leaf.specs.Kind.{Lawful}
 use Rattle.leaf.specs.Kind.{admits as admitted}
 use Rattle.list.specs.Held.{Leads, Settled, held_of, places_of}
 use Rattle.list.specs.Lists.{All, any}
-use Rattle.list.specs.Runs.{run, reading}
+use Rattle.list.specs.Runs.{run}
 use Rattle.list.specs.Runs.Call.{insert}
-use Rattle.foreign.specs.Timed.{made_of}
+use Rattle.foreign.specs.Running.{made_of, read_or_none}
 use Rattle.foreign.proofs.Makes.{made_lawful}
-use Rattle.foreign.proofs.timing.time_run.Goals as goal
+use Rattle.foreign.proofs.running.run_list.Goals as goal
 
 pub returns : goal.returns
 returns g c =
@@ -19,7 +19,7 @@ returns g c =
     let opened = c.open-list.ensures in
     let put = c.insert_leaves.ensures in
     let asked = c.count_admitted-yes.ensures in
-    let shown = c.count-lines.ensures in
+    let shown = c.read_lines-lines.ensures in
     let front = take c.read_leaves-leaves.result c.read_leaves-leaves.new.table in
     let same : length c.args.made.now ≡ n = search (rules, c.requires) in
     let made : front ≡ xs = read.made ∙ ap (λ (i : ℕ). made_of k i b 0) same in
@@ -31,5 +31,5 @@ returns g c =
     record {
       leaves = search (rules, made, read.within);
       yes = asked.answer ∙ ap (λ h. length (filter (λ v. any (λ x. admitted k x v) h) c.args.values.now)) held;
-      lines = shown.answer ∙ ap length (shown.lines settled ∙ ap (λ l. reading k (held_of l)) asked.same ∙ ap (reading k) held);
+      lines = shown settled ∙ ap (λ l. read_or_none k c.args.readings (held_of l)) asked.same ∙ ap (read_or_none k c.args.readings) held;
     }
