@@ -23,10 +23,15 @@ build() {
 }
 build target
 if [ "$1" = differences ]; then
-  # The crate's other build too, whose numbers have 64 bits.
+  # The crate's other build too, whose numbers have 64 bits; and both with every divisor exact as a float.
   build target-64 --no-default-features
-  target/$profile/compare differences
-  echo
-  exec target-64/$profile/compare differences
+  export ALL_EXACT=yes
+  build target-exact
+  build target-64-exact --no-default-features
+  for folder in target target-64 target-exact target-64-exact; do
+    $folder/$profile/compare differences
+    echo
+  done
+  exit
 fi
 exec "target/$profile/compare" "$@"
