@@ -207,8 +207,8 @@ fn measure(random: &mut Random, count: usize, rules: usize, is_shuffled: bool) {
         "nanoseconds", "here", "spread", "crate", "spread", "times"
     );
     for Row { name, part, is_for_a_leaf } in ROWS {
-        // A second reading takes no work, however many leaves: it would be lost in what a long call takes.
-        if name == "second reading" && count >= LONG {
+        // A second reading takes no work, however many leaves: it would be lost in what a longer call takes.
+        if name == "second reading" && count > SIZES[0] {
             continue;
         }
         let (a, a_spread) = median(&mut mine.iter().map(part).collect::<Vec<_>>());
