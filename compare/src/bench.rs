@@ -171,6 +171,26 @@ const ROWS: [Row; 7] = [
     row("a question, a leaf", true, |p| p.asking / QUESTIONS as f64),
 ];
 
+/// Each part on both sides, and how many times this repository is faster.
+fn print_rows(count: usize, mine: &[Parts], other: &[Parts]) {
+    println!(
+        "{:<28}{:>14}{:>8}{:>16}{:>8}{:>9}",
+        "nanoseconds", "here", "spread", "crate", "spread", "times"
+    );
+    for Row { name, part, is_for_a_leaf } in ROWS {
+        // A second reading takes no work, however many leaves: it would be lost in what a longer call takes.
+        if name == "second reading" && count > SIZES[0] {
+            continue;
+        }
+        let (a, a_spread) = median(&mut mine.iter().map(part).collect::<Vec<_>>());
+        let (b, b_spread) = median(&mut other.iter().map(part).collect::<Vec<_>>());
+        let per = if is_for_a_leaf { count as f64 } else { 1.0 };
+        let (a_spread, b_spread) = (a_spread * 100.0, b_spread * 100.0);
+        let (a, b, times) = (a / per, b / per, b / a);
+        println!("{name:<28}{a:>14.1}{a_spread:>7.0}%{b:>16.1}{b_spread:>7.0}%{times:>9.1}");
+    }
+}
+
 /// One size, so many rules, in one order of arrival.
 fn measure(random: &mut Random, count: usize, rules: usize, is_shuffled: bool) {
     let mut leaves = leaves(count, rules);
@@ -202,22 +222,7 @@ fn measure(random: &mut Random, count: usize, rules: usize, is_shuffled: bool) {
 
     let order = if is_shuffled { "random" } else { "ascending" };
     println!("\n{count} leaves of {rules} rules, {order} order, {lines} lines; medians of {rounds} rounds");
-    println!(
-        "{:<28}{:>14}{:>8}{:>16}{:>8}{:>9}",
-        "nanoseconds", "here", "spread", "crate", "spread", "times"
-    );
-    for Row { name, part, is_for_a_leaf } in ROWS {
-        // A second reading takes no work, however many leaves: it would be lost in what a longer call takes.
-        if name == "second reading" && count > SIZES[0] {
-            continue;
-        }
-        let (a, a_spread) = median(&mut mine.iter().map(part).collect::<Vec<_>>());
-        let (b, b_spread) = median(&mut other.iter().map(part).collect::<Vec<_>>());
-        let per = if is_for_a_leaf { count as f64 } else { 1.0 };
-        let (a_spread, b_spread) = (a_spread * 100.0, b_spread * 100.0);
-        let (a, b, times) = (a / per, b / per, b / a);
-        println!("{name:<28}{a:>14.1}{a_spread:>7.0}%{b:>16.1}{b_spread:>7.0}%{times:>9.1}");
-    }
+    print_rows(count, &mine, &other);
 }
 
 /// All sizes up to the one given, few rules and many, ascending and random order of arrival.
