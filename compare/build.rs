@@ -46,12 +46,29 @@ fn part_of(text: &str, first: &str, end: &str) -> String {
     lines[start..start + count].join("\n") + "\n"
 }
 
+/// A copy of `bound_integer.rs` in which every divisor counts as exact as a float: what else the crate does past 2^53.
+fn all_exact(path: &Path, copy: &Path) {
+    let text = fs::read_to_string(path).expect("bound_integer.rs");
+    let (before, rest) = text
+        .split_once("fn is_exact_in_f64(&self) -> bool {\n")
+        .expect("bound_integer.rs: no is_exact_in_f64");
+    let (_, after) = rest.split_once("\n    }\n").expect("its end");
+    let text = format!("{before}fn is_exact_in_f64(&self) -> bool {{\n        true\n    }}\n{after}");
+    fs::write(copy, text).expect("OUT_DIR");
+}
+
 fn main() {
     let folder = PathBuf::from(env::var("CRATE_FILES").expect("CRATE_FILES: the folder of the crate's five files"));
+    let out = PathBuf::from(env::var("OUT_DIR").expect("OUT_DIR"));
     let mut text = String::new();
     for name in WHOLE {
-        let path = file_of(&folder, name).canonicalize().expect("a path");
+        let mut path = file_of(&folder, name).canonicalize().expect("a path");
         println!("cargo:rerun-if-changed={}", path.display());
+        if name == "bound_integer" && env::var_os("ALL_EXACT").is_some() {
+            let copy = out.join("bound_integer.rs");
+            all_exact(&path, &copy);
+            path = copy;
+        }
         text += &format!("#[path = {:?}]\nmod {name};\n", path.display().to_string());
     }
     let module = file_of(&folder, "mod");
@@ -60,7 +77,7 @@ fn main() {
     for (first, end) in PARTS {
         text += &part_of(&module, first, end);
     }
-    fs::write(Path::new(&env::var("OUT_DIR").unwrap()).join("ir.rs"), text).expect("OUT_DIR");
+    fs::write(out.join("ir.rs"), text).expect("OUT_DIR");
 
     for folder in ["RULE_LINES_LIB", "KIT_C"] {
         println!("cargo:rerun-if-env-changed={folder}");
@@ -73,4 +90,5 @@ fn main() {
     println!("cargo:rustc-link-lib=static=foreign");
     println!("cargo:rustc-link-lib=static=libc_c");
     println!("cargo:rerun-if-env-changed=CRATE_FILES");
+    println!("cargo:rerun-if-env-changed=ALL_EXACT");
 }

@@ -2,7 +2,7 @@
 # Builds and runs the comparison: run.sh CRATE_FILES NUM_CRATES WHAT.. (README.md).
 set -e
 if [ $# -lt 3 ]; then
-  echo "usage: run.sh CRATE_FILES NUM_CRATES compare SEED COUNT | differences | answers SEED COUNT | bench SIZE" >&2
+  echo "usage: run.sh CRATE_FILES NUM_CRATES compare SEED COUNT | compare-large SEED COUNT | differences | answers SEED COUNT | bench SIZE" >&2
   exit 2
 fi
 CRATE_FILES=$(realpath "$1")
@@ -21,12 +21,23 @@ build() {
   cargo build --quiet --offline --profile "$profile" --target-dir "$@" \
     --config 'source.crates-io.replace-with="unpacked"' --config "source.unpacked.directory=\"$NUM_CRATES\""
 }
+if [ "$1" = compare-large ]; then
+  # With every divisor exact as a float.
+  export ALL_EXACT=yes
+  build target-exact
+  exec target-exact/$profile/compare "$@"
+fi
 build target
 if [ "$1" = differences ]; then
-  # The crate's other build too, whose numbers have 64 bits.
+  # The crate's other build too, whose numbers have 64 bits; and both with every divisor exact as a float.
   build target-64 --no-default-features
-  target/$profile/compare differences
-  echo
-  exec target-64/$profile/compare differences
+  export ALL_EXACT=yes
+  build target-exact
+  build target-64-exact --no-default-features
+  for folder in target target-64 target-exact target-64-exact; do
+    $folder/$profile/compare differences
+    echo
+  done
+  exit
 fi
 exec "target/$profile/compare" "$@"

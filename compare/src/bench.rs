@@ -5,21 +5,25 @@ use crate::random::Random;
 use crate::{ours, sheet, theirs};
 use serde_json::Number;
 use std::hint::black_box;
-use std::time::Instant;
+use std::sync::atomic::{AtomicI32, Ordering::Relaxed};
 
 const SIZES: [usize; 5] = [10, 100, 128, 1_000, 5_000];
 
 /// How many amounts are asked about in a round.
 const QUESTIONS: usize = 16;
 
-/// The parts of a run, in nanoseconds.
+/// How many more readings the second one is timed by.
+const MORE: usize = 1_000;
+
+/// The parts of a run, in nanoseconds: leaves made, inserted, asked and read, one more reading, and all that a list needs to come to its lines.
 #[derive(Clone, Copy, Default)]
 struct Parts {
-    making: u64,
-    inserting: u64,
-    asking: u64,
-    reading: u64,
-    reading_again: u64,
+    making: f64,
+    inserting: f64,
+    asking: f64,
+    reading: f64,
+    reading_again: f64,
+    whole: f64,
 }
 
 /// So many leaves in the order of the list, each rule having as many: every second window touches the one before it on its grid, and those
@@ -49,57 +53,143 @@ fn questions(random: &mut Random, leaves: &[Leaf]) -> Vec<i64> {
     (0..QUESTIONS).map(|_| random.within(0, high + 1_000)).collect()
 }
 
-fn since(start: Instant) -> u64 {
-    start.elapsed().as_nanos() as u64
+#[repr(C)]
+struct Time {
+    seconds: i64,
+    nanoseconds: i64,
 }
 
-/// A run of the crate: leaves from numbers, inserts, questions, the first reading, and one more. How many lines and yeses, and what it took.
+extern "C" {
+    fn clock_gettime(clock: i32, time: *mut Time) -> i32;
+}
+
+/// Of lists of so many leaves the time is that of the processor alone, which other programs disturb less; below, the clock on the wall, which costs
+/// less to read.
+const LONG: usize = 1_000;
+const WALL: i32 = 1;
+const PROCESSOR: i32 = 3;
+static CLOCK: AtomicI32 = AtomicI32::new(WALL);
+
+/// The clock in nanoseconds.
+fn now() -> f64 {
+    let mut time = Time {
+        seconds: 0,
+        nanoseconds: 0,
+    };
+    // SAFETY: the call fills the struct that it is lent.
+    let failed = unsafe { clock_gettime(CLOCK.load(Relaxed), &mut time) };
+    assert_eq!(failed, 0, "no clock");
+    time.seconds as f64 * 1e9 + time.nanoseconds as f64
+}
+
+fn since(start: f64) -> f64 {
+    now() - start
+}
+
+/// What a call takes; one before it is not timed, so that neither side meets what the other left in the processor.
+fn timed<T>(work: impl Fn() -> T) -> f64 {
+    black_box(work());
+    let start = now();
+    black_box(work());
+    since(start)
+}
+
+/// A run of this repository's list. A call is whole, with tables that are made and let go, so each part is what a call takes longer with that part
+/// than without it; only `whole` is a call as it is.
+fn run_ours(places: usize, bytes: &[u8], values: &[i64]) -> Parts {
+    let made = timed(|| ours::make(places, bytes)) - timed(|| ours::make(places, &[]));
+    let inserted = timed(|| ours::run(places, bytes, &[], 0));
+    let asked = timed(|| ours::run(places, bytes, values, 0));
+    let read = timed(|| ours::run(places, bytes, &[], 1));
+    let read_again = timed(|| ours::run(places, bytes, &[], 1 + MORE));
+    Parts {
+        making: made,
+        inserting: inserted - timed(|| ours::run(places, &[], &[], 0)) - made,
+        asking: asked - inserted,
+        reading: read - inserted,
+        reading_again: (read_again - read) / MORE as f64,
+        whole: read,
+    }
+}
+
+/// A run of the crate, its parts timed one after the other: leaves from numbers, inserts, questions, the first reading, more of them.
 fn run_theirs(leaves: &[Leaf], values: &[(BoundInteger, Number)]) -> (usize, usize, Parts) {
     let mut parts = Parts::default();
-    let start = Instant::now();
+    let start = now();
     let made: Vec<IntegerLeaf> = leaves.iter().map(theirs::leaf_of).collect();
     parts.making = since(start);
     let kept = made.clone();
-    let start = Instant::now();
+    let start = now();
     let mut list = IntegerLeaves::default();
     for leaf in made {
         list.insert(leaf);
     }
     parts.inserting = since(start);
-    let start = Instant::now();
+    let start = now();
     let yes = values
         .iter()
         .filter(|(value, number)| theirs::any_admits(&kept, value, number))
         .count();
     parts.asking = since(start);
-    let start = Instant::now();
+    let start = now();
     let lines = black_box(&mut list).as_slice().len();
     parts.reading = since(start);
-    let start = Instant::now();
-    black_box(black_box(&mut list).as_slice());
-    parts.reading_again = since(start);
+    let start = now();
+    for _ in 0..MORE {
+        black_box(black_box(&mut list).as_slice());
+    }
+    parts.reading_again = since(start) / MORE as f64;
+    parts.whole = parts.making + parts.inserting + parts.reading;
     (lines, yes, parts)
 }
 
 /// The median, and how far the middle half of the times lies apart, as a part of it.
-fn median(times: &mut [u64]) -> (f64, f64) {
-    times.sort_unstable();
-    let at = |part: usize| times[(times.len() - 1) * part / 4] as f64;
-    (at(2), (at(3) - at(1)) / at(2).max(1.0))
+fn median(times: &mut [f64]) -> (f64, f64) {
+    times.sort_unstable_by(f64::total_cmp);
+    let at = |part: usize| times[(times.len() - 1) * part / 4];
+    (at(2), (at(3) - at(1)) / at(2).abs().max(1.0))
 }
 
-/// A part, or parts together, by name.
-type Row = (&'static str, fn(&Parts) -> u64);
+/// A part by its name, and how it is told: for a leaf, or as it is.
+struct Row {
+    name: &'static str,
+    part: fn(&Parts) -> f64,
+    is_for_a_leaf: bool,
+}
+
+const fn row(name: &'static str, is_for_a_leaf: bool, part: fn(&Parts) -> f64) -> Row {
+    Row { name, part, is_for_a_leaf }
+}
 
 const ROWS: [Row; 7] = [
-    ("leaves made", |p| p.making),
-    ("inserts", |p| p.inserting),
-    ("first reading", |p| p.reading),
-    ("inserts and first reading", |p| p.inserting + p.reading),
-    ("made, inserted and read", |p| p.making + p.inserting + p.reading),
-    ("second reading (whole)", |p| p.reading_again),
-    ("a question", |p| p.asking / QUESTIONS as u64),
+    row("leaves made, a leaf", true, |p| p.making),
+    row("inserts, a leaf", true, |p| p.inserting),
+    row("first reading, a leaf", true, |p| p.reading),
+    row("inserts and reading, a leaf", true, |p| p.inserting + p.reading),
+    row("all of it, a leaf", true, |p| p.whole),
+    row("second reading", false, |p| p.reading_again),
+    row("a question, a leaf", true, |p| p.asking / QUESTIONS as f64),
 ];
+
+/// Each part on both sides, and how many times this repository is faster.
+fn print_rows(count: usize, mine: &[Parts], other: &[Parts]) {
+    println!(
+        "{:<28}{:>14}{:>8}{:>16}{:>8}{:>9}",
+        "nanoseconds", "here", "spread", "crate", "spread", "times"
+    );
+    for Row { name, part, is_for_a_leaf } in ROWS {
+        // A second reading takes no work, however many leaves: it would be lost in what a longer call takes.
+        if name == "second reading" && count > SIZES[0] {
+            continue;
+        }
+        let (a, a_spread) = median(&mut mine.iter().map(part).collect::<Vec<_>>());
+        let (b, b_spread) = median(&mut other.iter().map(part).collect::<Vec<_>>());
+        let per = if is_for_a_leaf { count as f64 } else { 1.0 };
+        let (a_spread, b_spread) = (a_spread * 100.0, b_spread * 100.0);
+        let (a, b, times) = (a / per, b / per, b / a);
+        println!("{name:<28}{a:>14.1}{a_spread:>7.0}%{b:>16.1}{b_spread:>7.0}%{times:>9.1}");
+    }
+}
 
 /// One size, so many rules, in one order of arrival.
 fn measure(random: &mut Random, count: usize, rules: usize, is_shuffled: bool) {
@@ -108,53 +198,31 @@ fn measure(random: &mut Random, count: usize, rules: usize, is_shuffled: bool) {
         random.shuffle(&mut leaves);
     }
     let values = questions(random, &leaves);
-    let numbers: Vec<_> = values
-        .iter()
-        .map(|v| (BoundInteger::from_number(&Number::from(*v)).unwrap(), Number::from(*v)))
-        .collect();
+    let number = |v: &i64| (BoundInteger::from_number(&Number::from(*v)).unwrap(), Number::from(*v));
+    let numbers: Vec<_> = values.iter().map(number).collect();
     let mut bytes = Vec::new();
     leaves.iter().for_each(|leaf| sheet::put_leaf(&mut bytes, leaf));
 
-    let rounds = (200_000 / count).clamp(11, 2_001) | 1;
+    CLOCK.store(if count < LONG { WALL } else { PROCESSOR }, Relaxed);
+    let run = ours::run(count, &bytes, &values, 1);
+    let (lines, yes, _) = run_theirs(&leaves, &numbers);
+    assert_eq!((run.leaves, run.lines, run.yes), (count, lines, yes), "the sides differ");
+    let rounds = (50_000 / count).clamp(11, 1_001) | 1;
     let (mut mine, mut other) = (Vec::new(), Vec::new());
+    // The first round warms both up.
     for round in 0..=rounds {
-        let timed = ours::time(count, &bytes, &values);
-        let (lines, yes, parts) = run_theirs(&leaves, &numbers);
-        assert_eq!((timed.leaves, timed.lines, timed.yes), (count, lines, yes), "the sides differ");
-        // The first round warms both up.
+        let here = run_ours(count, &bytes, &values);
+        run_theirs(&leaves, &numbers);
+        let there = run_theirs(&leaves, &numbers).2;
         if round > 0 {
-            let [making, inserting, asking, reading, reading_again] = timed.parts;
-            mine.push(Parts {
-                making,
-                inserting,
-                asking,
-                reading,
-                reading_again,
-            });
-            other.push(parts);
-        }
-        if round == 1 {
-            let order = if is_shuffled { "random" } else { "ascending" };
-            println!("\n{count} leaves of {rules} rules, {order} order, {lines} lines; medians of {rounds} rounds");
-            println!(
-                "{:<28}{:>14}{:>8}{:>16}{:>8}{:>9}",
-                "ns per leaf", "here", "spread", "crate", "spread", "times"
-            );
+            mine.push(here);
+            other.push(there);
         }
     }
-    for (name, part) in ROWS {
-        let (a, a_spread) = median(&mut mine.iter().map(part).collect::<Vec<_>>());
-        let (b, b_spread) = median(&mut other.iter().map(part).collect::<Vec<_>>());
-        let per = if name.contains("whole") { 1.0 } else { count as f64 };
-        let times = b / a.max(1.0);
-        println!(
-            "{name:<28}{:>14.1}{:>7.0}%{:>16.1}{:>7.0}%{times:>9.1}",
-            a / per,
-            a_spread * 100.0,
-            b / per,
-            b_spread * 100.0
-        );
-    }
+
+    let order = if is_shuffled { "random" } else { "ascending" };
+    println!("\n{count} leaves of {rules} rules, {order} order, {lines} lines; medians of {rounds} rounds");
+    print_rows(count, &mine, &other);
 }
 
 /// All sizes up to the one given, few rules and many, ascending and random order of arrival.

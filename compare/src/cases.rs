@@ -117,6 +117,27 @@ pub fn leaves(random: &mut Random) -> Vec<Leaf> {
         .collect()
 }
 
+/// Leaves of few rules, of whole divisors of up to 63 bits: beyond the shared domain.
+pub fn large_leaves(random: &mut Random) -> Vec<Leaf> {
+    let (low, high) = span(random);
+    let rules: Vec<_> = (0..1 + random.below(3))
+        .map(|_| {
+            let barred = if random.one_in(2) { Vec::new() } else { large_list(random) };
+            (large_list(random), barred)
+        })
+        .collect();
+    (0..random.below(9))
+        .map(|_| {
+            let (required, barred) = random.pick(&rules).clone();
+            Leaf {
+                window: window(random, low, high),
+                required,
+                barred,
+            }
+        })
+        .collect()
+}
+
 /// Amounts worth asking about: next to bounds, multiples of divisors, and any.
 pub fn values(random: &mut Random, leaves: &[Leaf]) -> Vec<i64> {
     let mut values = vec![0, random.next() as i64, random.within(-40, 40)];

@@ -41,12 +41,11 @@ pub fn leaves_text(leaves: &[Leaf]) -> String {
 }
 
 /// The lines of leaves in their order, and each yes or no, before the reading and after it.
-fn compare_list(random: &mut Random, counts: &mut Counts) -> Result<(), Difference> {
-    let leaves = cases::leaves(random);
-    let bytes = sheet::of_amounts(&leaves);
+fn compare_list(random: &mut Random, leaves: &[Leaf], counts: &mut Counts) -> Result<(), Difference> {
+    let bytes = sheet::of_amounts(leaves);
     let (told, text) = ours::print(&bytes);
-    let read = theirs::Read::of(&leaves);
-    same(|| format!("leaves{}", leaves_text(&leaves)), text.clone(), read.text())?;
+    let read = theirs::Read::of(leaves);
+    same(|| format!("leaves{}", leaves_text(leaves)), text.clone(), read.text())?;
     assert!(
         told.refusal == 0 && told.accepted == leaves.len(),
         "a sheet of the domain was refused"
@@ -54,14 +53,14 @@ fn compare_list(random: &mut Random, counts: &mut Counts) -> Result<(), Differen
     counts.lists += 1;
     counts.leaves += leaves.len() as u64;
     counts.lines += text.lines().count() as u64;
-    for value in cases::values(random, &leaves) {
+    for value in cases::values(random, leaves) {
         for is_read in [false, true] {
             let (mine, other) = (ours::admit(&bytes, value, is_read), read.admits(value, is_read));
             let input = || {
                 format!(
                     "{value}, {}, leaves{}",
                     if is_read { "of lines" } else { "of leaves" },
-                    leaves_text(&leaves)
+                    leaves_text(leaves)
                 )
             };
             same(input, mine.to_string(), other.to_string())?;
@@ -126,11 +125,26 @@ pub fn compare(seed: u64, count: u64, counts: &mut Counts) -> Result<(), Differe
     let mut random = Random::of(seed);
     for case in 0..count {
         match case % 10 {
-            0..=3 => compare_list(&mut random, counts)?,
+            0..=3 => {
+                let leaves = cases::leaves(&mut random);
+                compare_list(&mut random, &leaves, counts)?;
+            }
             4..=6 => compare_fold(&mut random, counts)?,
             7 => compare_large_fold(&mut random, counts)?,
             _ => compare_days(&mut random, counts)?,
         }
+    }
+    Ok(())
+}
+
+/// So many lists of whole divisors of up to 63 bits, where every divisor is exact as a float and the crate's numbers have the limit of this
+/// repository's joins: of the build that ALL_EXACT makes.
+pub fn compare_large(seed: u64, count: u64, counts: &mut Counts) -> Result<(), Difference> {
+    serde_json::limit::set(true);
+    let mut random = Random::of(seed);
+    for _ in 0..count {
+        let leaves = cases::large_leaves(&mut random);
+        compare_list(&mut random, &leaves, counts)?;
     }
     Ok(())
 }

@@ -103,6 +103,12 @@ fn readings(text: &str) {
     );
 }
 
+/// What only this repository can be asked.
+fn fold_here(written: &str) {
+    let ours = ours::fold(&divisors(written)).map_or_else(|number| format!("refused {number}"), |list| list_text(&list));
+    println!("{:<10}required {written}\n          here: {ours}", "-");
+}
+
 /// All inputs.
 pub fn print() {
     let build = if cfg!(feature = "arbitrary-precision") {
@@ -110,10 +116,16 @@ pub fn print() {
     } else {
         "64 bits"
     };
-    println!("The crate's build: {build}. R: a reading.\n");
+    let exact = if option_env!("ALL_EXACT").is_some() {
+        ", every divisor being exact as a float"
+    } else {
+        ""
+    };
+    println!("The crate's build: {build}{exact}. R: a reading.\n");
     fold("4,9223372036854775806");
     fold("2,3,4,5,6,7,8");
     fold("9223372036854775808");
+    fold_here("2/3,4/3");
     fold("25/2,10");
     fold("1/10,3/10");
     thin("5/2,5");

@@ -12,16 +12,14 @@ mod random;
 mod sheet;
 mod theirs;
 
-use comparing::Counts;
+use comparing::{Counts, Difference};
 use std::env;
 use std::process::ExitCode;
 
-const USAGE: &str = "compare SEED COUNT | differences | answers SEED COUNT | bench SIZE";
+const USAGE: &str = "compare SEED COUNT | compare-large SEED COUNT | differences | answers SEED COUNT | bench SIZE";
 
-/// Random cases on both sides.
-fn compare(seed: u64, count: u64) -> ExitCode {
-    let mut counts = Counts::default();
-    let outcome = comparing::compare(seed, count, &mut counts);
+/// Random cases on both sides: how many of each, and the first difference.
+fn report(seed: u64, count: u64, counts: &Counts, outcome: Result<(), Difference>) -> ExitCode {
     println!(
         "lists of amounts {}, of {} leaves, with {} lines in their order",
         counts.lists, counts.leaves, counts.lines
@@ -35,21 +33,29 @@ fn compare(seed: u64, count: u64) -> ExitCode {
             println!("cases {count}, seed {seed}: no difference");
             ExitCode::SUCCESS
         }
-        Err(difference) => {
-            println!(
-                "DIFFERENT: {}\nhere:\n{}\nin the crate:\n{}",
-                difference.input, difference.ours, difference.theirs
-            );
+        Err(Difference { input, ours, theirs }) => {
+            println!("DIFFERENT: {input}\nhere:\n{ours}\nin the crate:\n{theirs}");
             ExitCode::FAILURE
         }
     }
+}
+
+/// A comparison by its name, seed and count.
+fn compare(what: &str, seed: &str, count: &str) -> ExitCode {
+    let (seed, count) = (seed.parse().expect("a seed"), count.parse().expect("a count"));
+    let mut counts = Counts::default();
+    let outcome = match what {
+        "compare" => comparing::compare(seed, count, &mut counts),
+        _ => comparing::compare_large(seed, count, &mut counts),
+    };
+    report(seed, count, &counts, outcome)
 }
 
 fn main() -> ExitCode {
     let arguments: Vec<String> = env::args().skip(1).collect();
     let words: Vec<&str> = arguments.iter().map(String::as_str).collect();
     match words.as_slice() {
-        ["compare", seed, count] => compare(seed.parse().expect("a seed"), count.parse().expect("a count")),
+        [what @ ("compare" | "compare-large"), seed, count] => compare(what, seed, count),
         ["differences"] => {
             differences::print();
             ExitCode::SUCCESS

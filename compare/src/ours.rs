@@ -21,15 +21,14 @@ pub struct SheetText {
     pub length: usize,
 }
 
-/// What a run of a list came to, and what each part took in nanoseconds: making, inserting, asking, the first reading, one more.
+/// What a run of a list came to. `done` is false where memory ran out.
 #[repr(C)]
 #[derive(Clone, Copy, Debug)]
-pub struct Timed {
+pub struct Run {
     pub done: bool,
     pub leaves: usize,
     pub yes: usize,
     pub lines: usize,
-    pub parts: [u64; 5],
 }
 
 extern "C" {
@@ -37,7 +36,8 @@ extern "C" {
     fn rule_lines_thin(written: *const Fraction, count: usize) -> Divisors;
     fn rule_lines_print(sheet: *const u8, bytes: usize, out: *mut u8, room: usize) -> SheetText;
     fn rule_lines_admit(sheet: *const u8, bytes: usize, value: i64, read: bool) -> bool;
-    fn rule_lines_time(places: usize, leaves: *const u8, bytes: usize, values: *const i64, count: usize) -> Timed;
+    fn rule_lines_make(places: usize, leaves: *const u8, bytes: usize) -> Run;
+    fn rule_lines_run(places: usize, leaves: *const u8, bytes: usize, values: *const i64, count: usize, readings: usize) -> Run;
 }
 
 fn kept(list: Divisors) -> Result<Vec<Fraction>, u8> {
@@ -75,10 +75,18 @@ pub fn admit(sheet: &[u8], value: i64, read: bool) -> bool {
     unsafe { rule_lines_admit(sheet.as_ptr(), sheet.len(), value, read) }
 }
 
-/// A run of a list of so many places on the leaves that the bytes hold, timed.
-pub fn time(places: usize, leaves: &[u8], values: &[i64]) -> Timed {
+/// Reads the leaves that the bytes hold into a table of so many places.
+pub fn make(places: usize, leaves: &[u8]) -> Run {
+    // SAFETY: as in `fold`.
+    let run = unsafe { rule_lines_make(places, leaves.as_ptr(), leaves.len()) };
+    assert!(run.done, "out of memory");
+    run
+}
+
+/// A list of so many places takes the leaves that the bytes hold, answers the questions and is read so many times.
+pub fn run(places: usize, leaves: &[u8], values: &[i64], readings: usize) -> Run {
     // SAFETY: each pointer goes with the length of its slice, which the call only reads.
-    let timed = unsafe { rule_lines_time(places, leaves.as_ptr(), leaves.len(), values.as_ptr(), values.len()) };
-    assert!(timed.done, "out of memory");
-    timed
+    let run = unsafe { rule_lines_run(places, leaves.as_ptr(), leaves.len(), values.as_ptr(), values.len(), readings) };
+    assert!(run.done, "out of memory");
+    run
 }

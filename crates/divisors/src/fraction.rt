@@ -31,6 +31,9 @@ impl Fraction {
     pub fn cmp(self, other: Fraction) -> Ordering
         ensures { BySize self other result }
     {
+        if self.q == other.q && self.q != 0 {
+            return self.p.cmp(&other.p);
+        }
         order(self.p, self.q, other.p, other.q)
     }
 

@@ -72,14 +72,12 @@ pub(crate) fn is_multiple(n: u64, p: u64, q: u64) -> bool
     n % (p / gcd(p, q)) == 0
 }
 
-// The order of p * s against r * q, with no product: of like parts the other two decide, else whole parts first, then the remainders, turned
-// over.
+// The order of p * s against r * q, with no product: whole parts first, then the remainders, turned over. Out of line, so that the order of
+// fractions is short where the parts below are alike.
+#[inline(never)]
 pub(crate) fn order(p: u64, q: u64, r: u64, s: u64) -> Ordering
     ensures { MatchOrdering result (p * s < r * q) (p * s ≡ r * q) (r * q < p * s) }
 {
-    if q == s && q != 0 {
-        return p.cmp(&r);
-    }
     if q == 0 {
         return sign(p, s);
     }
