@@ -45,7 +45,7 @@ impl Leaf<i64> for AmountLeaf {
 
     fn rule_at_most(&self, other: &AmountLeaf) -> bool {
         self.required.is_at_most(&other.required)
-            && (!other.required.is_at_most(&self.required) || self.barred.is_at_most(&other.barred))
+            && (self.barred.is_at_most(&other.barred) || !other.required.is_at_most(&self.required))
     }
 
     fn rule_admits(&self, v: i64) -> bool {

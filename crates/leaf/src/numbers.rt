@@ -16,7 +16,12 @@ pub fn number(sheet: &[u8], start: usize) -> Result<(u64, usize), Fault>
     ensures reads { seen result ≡ number_at sheet.now start }
     ensures laws { NumbersStand }
 {
-    let (value, used) = groups(rest_of(sheet, start), MOST, start, sheet.len())?;
+    let rest = rest_of(sheet, start);
+    // Most numbers are of one byte.
+    if let [first @ ..0x80, ..] = rest {
+        return Ok((u64::from(*first), start + 1));
+    }
+    let (value, used) = groups(rest, MOST, start, sheet.len())?;
     Ok((value, start + used))
 }
 
