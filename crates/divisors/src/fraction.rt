@@ -32,9 +32,10 @@ impl Fraction {
         ensures { BySize self other result }
     {
         if self.q == other.q && self.q != 0 {
-            return self.p.cmp(&other.p);
+            self.p.cmp(&other.p)
+        } else {
+            order(self.p, self.q, other.p, other.q)
         }
-        order(self.p, self.q, other.p, other.q)
     }
 
     // Whether an integer is a multiple of this fraction.
