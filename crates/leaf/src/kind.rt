@@ -77,16 +77,11 @@ pub fn admits<V: Copy, L: Leaf<V>>(leaf: &L, v: V) -> bool
     contains::<V, L>(bounds_of(leaf), v) && leaf.rule_admits(v)
 }
 
-// Whether a stands no later than b: by rule, then minimum. The minimum is looked at first, since it costs less, and then mostly one question
-// of rules is left.
+// Whether a stands no later than b: by rule, then minimum. Of two leaves of one rule in order the rules are compared once.
 pub fn no_later<V: Copy, L: Leaf<V>>(a: &L, b: &L) -> bool
     ensures { result ≡ before L.kind a.now b.now }
 {
-    if is_low::<V, L>(a.minimum(), b.minimum()) {
-        a.rule_at_most(b)
-    } else {
-        !b.rule_at_most(a) && a.rule_at_most(b)
-    }
+    a.rule_at_most(b) && (is_low::<V, L>(a.minimum(), b.minimum()) || !b.rule_at_most(a))
 }
 
 // Whether a leaf joins the one before it: the rules tie, and no value of their grid lies strictly between.
