@@ -3,7 +3,7 @@ use Rattle.std.proofs.lemmas.Result.{on_ok_weaker}
 use Rattle.std.proofs.lemmas.List.{length-map}
 use Rattle.notation.proofs.NumberedLines.{few_lines, first_fits, left, next_fits, no_line_left, number}
 use Rattle.notation.specs.Text.{lines_of}
-use Rattle.questions.specs.Outcomes.{counts}
+use Rattle.questions.specs.Outcomes.{counts, said}
 use Rattle.ask.specs.Lines.{line_outcome}
 use Rattle.ask.specs.Output.{outcomes_of, wrong_text}
 use Rattle.ask.proofs.Turns.{ends, reported, starts}
@@ -28,7 +28,11 @@ loop-k-preserved g c =
     let r = c.in_ok-report.ensures in
     record {
       fits = next_fits c.loop-k.k-iterator c.next.new.self c.in-Some.k c.in-Some.line.now c.loop-k.invariant.fits h.0.0 h.0.1 h.1;
-      left = reported (outcomes_of c.args.text.now) (g.W.Write.contents c.args.out.now) _ _ _ _ (number c.loop-k.k-iterator) c.in-Some.k _ c.in-Some.line.now _ _ _ c.loop-k.invariant.left h.1 h.0.0 h.0.1 c.ask_line.ensures r.memory r.counts (r.written wrong_text (λ w. refl));
+      left =
+          reported (outcomes_of c.args.text.now) (g.W.Write.contents c.args.out.now) (g.W.Write.contents c.loop-k.out) (g.W.Write.contents c.report.new.out)
+          (counts c.loop-k.tally) (counts c.report.new.self) (number c.loop-k.k-iterator) c.in-Some.k (number c.next.new.self)
+          c.in-Some.line.now (left c.next.new.self) (left c.loop-k.k-iterator) (said c.ask_line.result)
+          c.loop-k.invariant.left h.1 h.0.0 h.0.1 c.ask_line.ensures r.memory r.counts (r.written wrong_text (λ w. refl));
     }
 
 pub returns : goal.returns
