@@ -3,4 +3,5 @@ pub mod Cuts
 pub mod Numbered
 pub mod NumberedLines
 pub mod Parts
+pub mod Reports
 pub mod Stepping
