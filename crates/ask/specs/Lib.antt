@@ -3,3 +3,4 @@ pub mod AmountQuestions
 pub mod DayTexts
 pub mod DayQuestions
 pub mod Lines
+pub mod Output

@@ -1,5 +1,6 @@
+ghost use Rattle.ask.specs.Output.{wrong_text};
 ghost use Rattle.questions.specs.declared.answer.Objection.TheVariants.{Malformed};
-ghost use Rattle.std.specs.Prelude.{◌≡◌};
+ghost use Rattle.std.specs.Prelude.{◌≡◌, Some};
 
 use questions::Objection;
 use std::fmt;
@@ -20,6 +21,8 @@ pub(crate) enum Wrong {
 }
 
 impl fmt::Display for Wrong {
+    ghost output = { λ wrong. Some (wrong_text wrong) };
+
     fn fmt<W: fmt::Write>(&self, f: &mut fmt::Formatter<W>) -> fmt::Result {
         f.write_str(match self {
             Wrong::Fields => "neither four nor five fields with a space between",

@@ -1,3 +1,7 @@
+ghost use Rattle.cases.specs.Texts.{bytes_text, told_text};
+ghost use Rattle.list.specs.Held.{stopped};
+ghost use Rattle.std.specs.Prelude.{Some};
+
 use list::SheetAnswer;
 use std::fmt;
 
@@ -6,6 +10,8 @@ use std::fmt;
 pub(crate) struct Hex<'a>(pub &'a [u8]);
 
 impl fmt::Display for Hex<'_> {
+    ghost output = { λ h. Some (bytes_text h.0.now) };
+
     fn fmt<W: fmt::Write>(&self, f: &mut fmt::Formatter<W>) -> fmt::Result {
         if self.0.is_empty() {
             return write!(f, "-");
@@ -23,6 +29,8 @@ impl fmt::Display for Hex<'_> {
 pub(crate) struct Told(pub SheetAnswer);
 
 impl fmt::Display for Told {
+    ghost output = { λ t. Some (told_text t.0.accepted t.0.start (stopped t.0.fault)) };
+
     fn fmt<W: fmt::Write>(&self, f: &mut fmt::Formatter<W>) -> fmt::Result {
         let SheetAnswer {
             accepted,

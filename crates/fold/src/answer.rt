@@ -1,7 +1,8 @@
 ghost use Rattle.divisors.specs.Written.{refusal_of_both};
 ghost use Rattle.fold.specs.Outcomes.{folded_or, outcome_of, said};
 ghost use Rattle.fold.specs.declared.answer.Objection.TheVariants.{Malformed, OutOfMemory, Refused};
-ghost use Rattle.std.specs.Prelude.{◌≡◌, IfSome};
+ghost use Rattle.fold.specs.Texts.{wrong_text};
+ghost use Rattle.std.specs.Prelude.{◌≡◌, IfSome, Some};
 
 use divisors::{Folded, Fraction, Refusal, Thinned, check};
 use notation::{divisors, split_once};
@@ -17,6 +18,8 @@ pub(crate) enum Fault {
 }
 
 impl fmt::Display for Fault {
+    ghost output = { λ wrong. Some (wrong_text wrong) };
+
     fn fmt<W: fmt::Write>(&self, f: &mut fmt::Formatter<W>) -> fmt::Result {
         f.write_str(match self {
             Fault::NotTwoLists => "not two lists with a space between",

@@ -1,6 +1,10 @@
 // Folds lists of divisors: each line of standard input is a required list and a barred list.
 #![tactic(auto)]
 
+ghost use Rattle.fold.specs.Output.{output_of};
+ghost use Rattle.std.specs.Io.KnownBytes.{Appends};
+ghost use Rattle.std.specs.Prelude.{OnOk};
+
 mod answer;
 mod report;
 
@@ -13,7 +17,9 @@ use std::io::{BufWriter, Read, Write};
 
 // Writes what each line of the text comes to, and last how many came to what.
 // A loop in each program: one call for all would take a closure, and ask of its caller that this may be called.
-fn fold_all<W: Write>(heap: Global, text: &[u8], out: &mut W) -> io::Result<()> {
+fn fold_all<W: Write>(heap: Global, text: &[u8], out: &mut W) -> io::Result<()>
+    ensures { OnOk result (Appends (W.contents out.old) (W.contents out.new) (output_of text.now)) }
+{
     let mut tally = Tally::default();
     for (k, line) in (1u64..).zip(Lines::of(text)) {
         tally.report(out, k, fold_line(heap, line))?;

@@ -1,3 +1,8 @@
+ghost use Rattle.fold.specs.Outcomes.{counted, counts, said};
+ghost use Rattle.fold.specs.Texts.{divisor_text, line_text, list_text, tally_text};
+ghost use Rattle.std.specs.Io.KnownBytes.{Appends};
+ghost use Rattle.std.specs.Prelude.{◌≡◌, IfSome, IsSome, MatchOption, OnOk, Some};
+
 use crate::answer::Objection;
 use divisors::{Folded, Fraction, Thinned};
 use std::io::Write;
@@ -12,6 +17,8 @@ pub(crate) struct Tally {
 }
 
 impl fmt::Display for Tally {
+    ghost output = { λ t. Some (tally_text (counts t)) };
+
     fn fmt<W: fmt::Write>(&self, f: &mut fmt::Formatter<W>) -> fmt::Result {
         let Tally {
             folded,
@@ -25,36 +32,55 @@ impl fmt::Display for Tally {
     }
 }
 
+// A divisor as it is read.
+#[derive(Clone, Copy)]
+struct Divisor(Fraction);
+
+impl fmt::Display for Divisor {
+    ghost output = { λ d. Some (divisor_text d.0) };
+
+    fn fmt<W: fmt::Write>(&self, f: &mut fmt::Formatter<W>) -> fmt::Result {
+        let Fraction { p, q } = self.0;
+        match q {
+            1 => write!(f, "{p}"),
+            _ => write!(f, "{p}/{q}"),
+        }
+    }
+}
+
 // A list as it is read.
 #[derive(Clone, Copy)]
 struct Listed<'a>(&'a [Fraction]);
 
 impl fmt::Display for Listed<'_> {
+    ghost output = { λ l. Some (list_text l.0.now) };
+
     fn fmt<W: fmt::Write>(&self, f: &mut fmt::Formatter<W>) -> fmt::Result {
-        if self.0.is_empty() {
-            return write!(f, "-");
-        }
-        let mut comma = "";
-        for fraction in self.0 {
-            let Fraction { p, q } = *fraction;
-            write!(f, "{comma}{p}")?;
-            if q != 1 {
-                write!(f, "/{q}")?;
-            }
-            comma = ",";
+        let [first, rest @ ..] = self.0 else {
+            return f.write_str("-");
+        };
+        let first = Divisor(*first);
+        write!(f, "{first}")?;
+        for fraction in rest {
+            let divisor = Divisor(*fraction);
+            write!(f, ",{divisor}")?;
         }
         Ok(())
     }
 }
 
 impl Tally {
-    // Writes what line `k` comes to, and counts it.
+    // Writes what line `k` comes to, and counts it; an error where memory ran out.
     pub(crate) fn report<W: Write>(
         &mut self,
         out: &mut W,
         k: u64,
         answer: Result<(Folded, Thinned), Objection>,
-    ) -> io::Result<()> {
+    ) -> io::Result<()>
+        ensures counts { MatchOption (said answer) (counts self.new ≡ counts self.old) (λ o. counts self.new ≡ counted o (counts self.old)) }
+        ensures memory { OnOk result (IsSome (said answer)) }
+        ensures written { OnOk result (IfSome (said answer) (λ o. Appends (W.contents out.old) (W.contents out.new) (line_text k o))) }
+    {
         match answer {
             Ok((required, barred)) => {
                 self.folded = self.folded.saturating_add(1);

@@ -1,6 +1,5 @@
 -- What a question about a leaf comes to.
-use Rattle.std.specs.Prelude.{ℕ, ◌+◌, ◌-◌, ◌^◌, min, Bool, false, List, [], ◌∷◌, ◌++◌, ◌==◌, codes, Some, None, Ok, Err, Option, Result}
-use Rattle.std.specs.Fmt.{decimal}
+use Rattle.std.specs.Prelude.{ℕ, ◌+◌, ◌-◌, ◌^◌, min, Bool, true, false, List, count_by, [], ◌∷◌, ◌==◌, Some, None, Ok, Err, Option, Result}
 use Rattle.leaf.specs.Faults.{number_of}
 use Rattle.questions.specs.declared.answer.Objection.{Objection}
 use Rattle.questions.specs.declared.answer.Objection.TheVariants.{Refused, Malformed, OutOfMemory}
@@ -43,17 +42,31 @@ pub record Counts : Type 0 where
 abbrev pub counts : Tally → Counts
 counts t = record { answers = t.answered; refusals = t.refused; others = t.malformed }
 
+abbrev pub is_answer : {M : Type 0} → Outcome M → Bool
+is_answer (answered b) = true
+is_answer (refused n) = false
+is_answer (malformed w) = false
+
+abbrev pub is_refusal : {M : Type 0} → Outcome M → Bool
+is_refusal (answered b) = false
+is_refusal (refused n) = true
+is_refusal (malformed w) = false
+
+abbrev pub is_other : {M : Type 0} → Outcome M → Bool
+is_other (answered b) = false
+is_other (refused n) = false
+is_other (malformed w) = true
+
+-- how many of the outcomes answer, refuse and name text of another form
+abbrev pub tally : {M : Type 0} → List (Outcome M) → Counts
+tally os = record { answers = count_by is_answer os; refusals = count_by is_refusal os; others = count_by is_other os }
+
 -- one more, as far as 64 bits count
 abbrev pub one_more : ℕ → ℕ
 one_more n = min (n + 1) (2 ^ 64 - 1)
 
--- the counts after an answer
-abbrev pub counted : {M : Type 0} → Result Bool (Objection M) → Counts → Counts
-counted (Ok b) c = record { answers = one_more c.answers; refusals = c.refusals; others = c.others }
-counted (Err (Refused f)) c = record { answers = c.answers; refusals = one_more c.refusals; others = c.others }
-counted (Err (Malformed w)) c = record { answers = c.answers; refusals = c.refusals; others = one_more c.others }
-counted (Err (OutOfMemory e)) c = c
-
--- the counts as text
-abbrev pub tally_text : Counts → List ℕ
-tally_text c = codes "answered " ++ (decimal c.answers ++ (codes ", refused " ++ (decimal c.refusals ++ (codes ", malformed " ++ decimal c.others))))
+-- the counts with one outcome more
+abbrev pub counted : {M : Type 0} → Outcome M → Counts → Counts
+counted (answered b) c = record { answers = one_more c.answers; refusals = c.refusals; others = c.others }
+counted (refused n) c = record { answers = c.answers; refusals = one_more c.refusals; others = c.others }
+counted (malformed w) c = record { answers = c.answers; refusals = c.refusals; others = one_more c.others }

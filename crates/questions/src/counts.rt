@@ -1,5 +1,7 @@
-ghost use Rattle.questions.specs.Outcomes.{counted, counts, tally_text};
-ghost use Rattle.std.specs.Prelude.{◌≡◌, Some};
+ghost use Rattle.questions.specs.Outcomes.{counted, counts, said};
+ghost use Rattle.questions.specs.Texts.{PrintsAs, outcome_text, tally_text};
+ghost use Rattle.std.specs.Io.KnownBytes.{Appends};
+ghost use Rattle.std.specs.Prelude.{◌≡◌, ℕ, List, IfSome, IsSome, MatchOption, OnOk, Some};
 
 use crate::answer::Objection;
 use std::fmt::Display;
@@ -31,14 +33,17 @@ impl fmt::Display for Tally {
 }
 
 impl Tally {
-    // Writes what line `k` comes to, and counts it.
+    // Writes what line `k` comes to, and counts it; an error where memory ran out.
     pub fn report<W: Write, M: Display + Drop>(
         &mut self,
         out: &mut W,
         k: u64,
         answer: Result<bool, Objection<M>>,
     ) -> io::Result<()>
-        ensures { counts self.new ≡ counted answer (counts self.old) }
+        ensures counts { MatchOption (said answer) (counts self.new ≡ counts self.old) (λ o. counts self.new ≡ counted o (counts self.old)) }
+        ensures memory { OnOk result (IsSome (said answer)) }
+        ensures written { (wrong : M → List ℕ) → PrintsAs M.output wrong
+            → OnOk result (IfSome (said answer) (λ o. Appends (W.contents out.old) (W.contents out.new) (outcome_text wrong k o))) }
     {
         match answer {
             Ok(admitted) => {

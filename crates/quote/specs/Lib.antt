@@ -1,1 +1,4 @@
 pub mod Batch
+pub mod Sheets
+pub mod Quotation
+pub mod Taking

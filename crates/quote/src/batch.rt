@@ -1,6 +1,9 @@
-ghost use Rattle.quote.specs.Batch.{bytes_in};
+ghost use Rattle.list.specs.Held.{stopped};
+ghost use Rattle.quote.specs.Batch.{batch_lines, bytes_in, line_with};
+ghost use Rattle.quote.specs.Quotation.{malformed_remark, refusal_remark};
+ghost use Rattle.quote.specs.Taking.{Completes, Follows, Holds, Stands, Tells, one_more_if, sum_to};
 ghost use Rattle.std.specs.Option.{option_map};
-ghost use Rattle.std.specs.Prelude.{◌≡◌, IfOk, vec_items};
+ghost use Rattle.std.specs.Prelude.{◌≡◌, ℕ, ◌<◌, ◌^◌, List, [], ◌∷◌, ◌++◌, length, IfOk, OnOk, vec_items};
 
 use amounts::AmountLeaf;
 use days::DayLeaf;
@@ -24,7 +27,10 @@ pub(crate) struct Taken {
 }
 
 impl Taken {
-    fn nothing(heap: Global) -> Taken {
+    fn nothing(heap: Global) -> Taken
+        ensures counts { (result.sheets ≡ 0) × (result.accepted ≡ 0) × (result.refused ≡ 0) × (result.malformed ≡ 0) }
+        ensures remarks { vec_items result.remarks ≡ [] }
+    {
         Taken {
             sheets: 0,
             accepted: 0,
@@ -35,13 +41,22 @@ impl Taken {
     }
 
     // Counts line `k`, which is not hexadecimal.
-    fn note_malformed(&mut self, k: usize) -> io::Result<()> {
+    fn note_malformed(&mut self, k: usize) -> io::Result<()>
+        ensures counts { self.new ≡ record self.old { malformed = sum_to self.old.malformed 1; remarks = self.new.remarks } }
+        ensures remarks { OnOk result (vec_items self.new.remarks ≡ vec_items self.old.remarks ++ malformed_remark k) }
+    {
         self.malformed = self.malformed.saturating_add(1);
         writeln!(self.remarks, "line {k}: not hexadecimal")
     }
 
     // Counts the sheet of line `k`, and remarks what refused it.
-    fn note_sheet(&mut self, k: usize, answer: SheetAnswer) -> io::Result<()> {
+    fn note_sheet(&mut self, k: usize, answer: SheetAnswer) -> io::Result<()>
+        ensures sheets { self.new.sheets ≡ sum_to self.old.sheets 1 }
+        ensures accepted { self.new.accepted ≡ sum_to self.old.accepted answer.accepted }
+        ensures refused { self.new.refused ≡ one_more_if (stopped answer.fault) self.old.refused }
+        ensures malformed { self.new.malformed ≡ self.old.malformed }
+        ensures remarks { OnOk result (vec_items self.new.remarks ≡ vec_items self.old.remarks ++ refusal_remark self.new.sheets k (stopped answer.fault)) }
+    {
         self.sheets = self.sheets.saturating_add(1);
         self.accepted = self.accepted.saturating_add(answer.accepted);
         if let Some(fault) = answer.fault {
@@ -61,27 +76,57 @@ fn bytes_in(heap: Global, line: &[u8]) -> Result<Option<Vec<u8>>, AllocError>
     read_hex(heap, front(line, find(line, b'#')))
 }
 
-// Takes the sheets of a batch, each into the list of its kind; what does not begin as a sheet of days goes to the amounts.
+// Takes a sheet into the list of its kind; what does not begin as a sheet of days goes to the amounts.
+fn take_sheet(
+    sheet: &[u8],
+    amounts: &mut Leaves<'_, i64, AmountLeaf>,
+    days: &mut Leaves<'_, u32, DayLeaf>,
+) -> SheetAnswer
+    ensures lists { (before : List (List ℕ)) → Holds before amounts.old days.old → Holds (before ++ sheet.now ∷ []) amounts.new days.new }
+    ensures answer { (before : List (List ℕ)) → Holds before amounts.old days.old → Tells before sheet.now result }
+{
+    if is_of_days(sheet) {
+        days.sheet(sheet)
+    } else {
+        amounts.sheet(sheet)
+    }
+}
+
+// Takes line `k` of a batch.
+fn take_line(
+    heap: Global,
+    k: usize,
+    line: &[u8],
+    amounts: &mut Leaves<'_, i64, AmountLeaf>,
+    days: &mut Leaves<'_, u32, DayLeaf>,
+    taken: &mut Taken,
+) -> io::Result<()>
+    ensures { (before : List (List ℕ)) → Stands before taken.old amounts.old days.old → length before < 2 ^ 63
+        → OnOk result (Follows before k (line_with (bytes_in line.now)) taken.old taken.new amounts.new days.new) }
+{
+    match bytes_in(heap, line)? {
+        None => taken.note_malformed(k),
+        Some(sheet) if sheet.is_empty() => Ok(()),
+        Some(sheet) => {
+            let answer = take_sheet(&sheet, amounts, days);
+            taken.note_sheet(k, answer)
+        }
+    }
+}
+
+// Takes the sheets of a batch, each into the list of its kind.
 pub(crate) fn take_batch(
     heap: Global,
     batch: &[u8],
     amounts: &mut Leaves<'_, i64, AmountLeaf>,
     days: &mut Leaves<'_, u32, DayLeaf>,
-) -> io::Result<Taken> {
+) -> io::Result<Taken>
+    requires { Holds [] amounts.old days.old }
+    ensures { IfOk result (λ t. Completes (batch_lines batch.now) t amounts.new days.new) }
+{
     let mut taken = Taken::nothing(heap);
     for (k, line) in (1usize..).zip(Lines::of(batch)) {
-        let Some(sheet) = bytes_in(heap, line)? else {
-            taken.note_malformed(k)?;
-            continue;
-        };
-        if !sheet.is_empty() {
-            let answer = if is_of_days(&sheet) {
-                days.sheet(&sheet)
-            } else {
-                amounts.sheet(&sheet)
-            };
-            taken.note_sheet(k, answer)?;
-        }
+        take_line(heap, k, line, amounts, days, &mut taken)?;
     }
     Ok(taken)
 }

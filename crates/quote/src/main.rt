@@ -1,6 +1,10 @@
 // Takes a batch of sheets, a line of hexadecimal each, and prints the quotation: the lines of each kind, what was refused, and how much was taken.
 #![tactic(auto)]
 
+ghost use Rattle.quote.specs.Quotation.{quotation, totals_text};
+ghost use Rattle.std.specs.Io.KnownBytes.{Appends};
+ghost use Rattle.std.specs.Prelude.{◌++◌, OnOk, vec_items};
+
 mod batch;
 mod lists;
 
@@ -18,7 +22,9 @@ use std::io::{BufWriter, Read, Write};
 const PLACES: usize = 1024;
 
 // Writes the quotation of a batch.
-fn quote<W: Write>(heap: Global, batch: &[u8], out: &mut W) -> io::Result<()> {
+fn quote<W: Write>(heap: Global, batch: &[u8], out: &mut W) -> io::Result<()>
+    ensures { OnOk result (Appends (W.contents out.old) (W.contents out.new) (quotation batch.now)) }
+{
     let mut amount_table = [AmountLeaf::blank(); PLACES];
     let mut day_table = [DayLeaf::blank(); PLACES];
     let mut amounts = Leaves::open(&mut amount_table);
@@ -30,7 +36,10 @@ fn quote<W: Write>(heap: Global, batch: &[u8], out: &mut W) -> io::Result<()> {
 }
 
 // What there was to remark, and what was completed.
-fn write_taken<W: Write>(out: &mut W, taken: &Taken, lines: usize) -> io::Result<()> {
+fn write_taken<W: Write>(out: &mut W, taken: &Taken, lines: usize) -> io::Result<()>
+    ensures { OnOk result (Appends (W.contents out.old) (W.contents out.new)
+        (vec_items taken.now.remarks ++ totals_text taken.now.sheets taken.now.accepted lines taken.now.refused taken.now.malformed)) }
+{
     let Taken {
         sheets,
         accepted,

@@ -1,3 +1,4 @@
 pub mod Pieces
 pub mod Works
 pub mod Encoded
+pub mod TooLong

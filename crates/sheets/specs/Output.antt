@@ -39,3 +39,11 @@ prints_as false bytes p = Prints amounts amount_text 128 bytes p
 
 abbrev pub prints_sheet : List ℕ → Printed → Type 0
 prints_sheet bytes p = prints_as (is_of_days bytes) bytes p
+
+-- what is printed of a sheet, as one of days or of amounts, in a table of 128 places
+abbrev pub output_as : Bool → List ℕ → List ℕ
+output_as true bytes = output_of days day_text 128 bytes
+output_as false bytes = output_of amounts amount_text 128 bytes
+
+abbrev pub sheet_output : List ℕ → List ℕ
+sheet_output bytes = output_as (is_of_days bytes) bytes

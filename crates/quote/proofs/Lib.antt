@@ -1,0 +1,5 @@
+mod Accepting
+mod Listing
+mod Quoting
+mod Telling
+mod Turns
