@@ -4,7 +4,7 @@ use Rattle.std.proofs.Common.{sym, ap, subst, ◌∙◌, arith, ⊎_elim}
 use Rattle.std.proofs.lemmas.Bool.{cond_both, cond-true, cond-false, false≢true, and_parts, ltb-true, le-leb, lt-ltb, le-ltb, lt-leb, cases_lt, eqb-false}
 use Rattle.std.proofs.lemmas.List.{append-nil, append_assoc}
 use Rattle.divisors.specs.declared.fraction.Fraction.{Fraction}
-use Rattle.leaf.specs.Faults.{Answer, Refused, found, refused, next, at_byte}
+use Rattle.faults.specs.Faults.{Answer, Refused, found, refused, next, at_byte}
 use Rattle.leaf.specs.Fields.{field_at}
 use Rattle.leaf.specs.Numbers.{bit_of, has_bit, number_at}
 use Rattle.leaf.specs.Windows.{bound_at, value_at}

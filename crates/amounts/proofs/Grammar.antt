@@ -5,7 +5,7 @@ use Rattle.std.proofs.lemmas.Bool.{and_parts, and_from, leb-true, leb-false, lt-
 use Rattle.divisors.specs.declared.fraction.Fraction.{Fraction}
 use Rattle.divisors.specs.Fractions.{in_range}
 use Rattle.divisors.specs.Written.{are_in_range}
-use Rattle.leaf.specs.Faults.{found}
+use Rattle.faults.specs.Faults.{found}
 use Rattle.leaf.specs.Encoding.{Bytes}
 use Rattle.leaf.specs.Fields.{Stands, Unfit, Reached, here}
 use Rattle.leaf.specs.Layouts.{LeafGrammar, is_of_field}

@@ -1,6 +1,6 @@
 -- One divisor on in a list on a sheet.
 use Rattle.std.proofs.Common.{◌≡◌, ℕ, suc, ◌+◌, ◌-◌, ◌<◌, ◌≤◌, cond, ltb, List, [], ◌∷◌, ◌++◌, Some, None, Ok, Err, OnOk, Result, sym, refl, ap, ◌∙◌, arith, le-ltb, lt-ltb}
-use Rattle.leaf.specs.Faults.{Answer, Refused, found, at_byte, next, refused}
+use Rattle.faults.specs.Faults.{Answer, Refused, found, at_byte, next, refused}
 use Rattle.leaf.specs.Numbers.{number_at}
 use Rattle.std.proofs.lemmas.Bool.{cond-true}
 use Rattle.std.proofs.lemmas.List.{append_assoc, append-nil}

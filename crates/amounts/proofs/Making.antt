@@ -4,7 +4,7 @@ use Rattle.std.specs.Int.Signed.{le_z}
 use Rattle.std.proofs.Common.{sym, ap, subst, ◌∙◌}
 use Rattle.divisors.specs.declared.fraction.Fraction.{Fraction}
 use Rattle.divisors.specs.Written.{are_in_range, refusal_of_both}
-use Rattle.leaf.specs.Faults.{Refused, then, unplaced}
+use Rattle.faults.specs.Faults.{Refused, then, unplaced}
 use Rattle.leaf.specs.Tests.{Decided, decided, window_tests}
 use Rattle.leaf.specs.Windows.{written}
 use Rattle.leaf.specs.declared.bounds.Bounds.{Bounds}

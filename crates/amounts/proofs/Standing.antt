@@ -5,7 +5,7 @@ use Rattle.std.proofs.lemmas.Bool.{cond-true, cond-false, and_parts, and_from, l
 use Rattle.divisors.specs.declared.fraction.Fraction.{Fraction}
 use Rattle.divisors.specs.Fractions.{in_range}
 use Rattle.divisors.specs.Written.{are_in_range}
-use Rattle.leaf.specs.Faults.{Answer, found, next}
+use Rattle.faults.specs.Faults.{Answer, found, next}
 use Rattle.leaf.specs.Numbers.{bit_of, has_bit}
 use Rattle.leaf.specs.Windows.{bound_at}
 use Rattle.leaf.specs.declared.bounds.Bounds.{Bounds}

@@ -5,7 +5,7 @@ use Rattle.std.proofs.lemmas.Bool.{and_from, and_parts, cond_both, cond-true, le
 use Rattle.divisors.specs.declared.fraction.Fraction.{Fraction}
 use Rattle.divisors.specs.Fractions.{in_range}
 use Rattle.divisors.specs.Written.{are_in_range, refusal_of}
-use Rattle.leaf.specs.Faults.{Answer, found, refused, at_byte}
+use Rattle.faults.specs.Faults.{Answer, found, refused, at_byte}
 use Rattle.leaf.specs.Numbers.{number_at}
 use Rattle.leaf.specs.Reading.{byte_at}
 use Rattle.leaf.specs.Kind.{is_bound}

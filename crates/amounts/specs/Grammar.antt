@@ -2,7 +2,7 @@
 use Rattle.std.specs.Prelude.{◌≡◌, ℕ, zero, suc, ◌+◌, ◌*◌, ◌^◌, ◌<◌, Bool, true, false, ◌&&◌, ◌↔◌, List, [], ◌∷◌, ◌++◌, length, drop, ℤ, pos, negsuc, Some, None, Option, is_some, unsigned_abs, nat_le, nat_lt}
 use Rattle.divisors.specs.declared.fraction.Fraction.{Fraction}
 use Rattle.divisors.specs.Written.{are_in_range}
-use Rattle.leaf.specs.Faults.{refused, at_byte}
+use Rattle.faults.specs.Faults.{refused, at_byte}
 use Rattle.leaf.specs.Encoding.{Bytes}
 use Rattle.leaf.specs.Fields.{Shape, byte, number, Fields, NumberDue}
 use Rattle.leaf.specs.Layouts.{Layout, LeafGrammar}

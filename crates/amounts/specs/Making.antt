@@ -4,7 +4,7 @@ use Rattle.std.specs.Int.Signed.{le_z}
 use Rattle.divisors.specs.declared.fraction.Fraction.{Fraction}
 use Rattle.divisors.specs.Written.{are_in_range, refusal_of_both}
 use Rattle.leaf.specs.declared.bounds.Bounds.{Bounds}
-use Rattle.leaf.specs.Faults.{Refused, then, unplaced}
+use Rattle.faults.specs.Faults.{Refused, then, unplaced}
 use Rattle.leaf.specs.Tests.{Test, Decided, window_tests}
 use Rattle.leaf.specs.Windows.{window_of as window_made, written}
 use Rattle.amounts.specs.declared.amount.WrittenAmount.{WrittenAmount}

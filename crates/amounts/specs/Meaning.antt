@@ -3,7 +3,7 @@ use Rattle.std.specs.Prelude.{◌≡◌, ℕ, true, List, ℤ, ◌≤ℤ◌, Som
 use Rattle.divisors.specs.declared.fraction.Fraction.{Fraction}
 use Rattle.divisors.specs.Written.{Admits, Spares}
 use Rattle.leaf.specs.Encoding.{Bytes}
-use Rattle.leaf.specs.Faults.{found}
+use Rattle.faults.specs.Faults.{found}
 use Rattle.leaf.specs.Layouts.{LeafStands}
 use Rattle.leaf.specs.Kind.{admits}
 use Rattle.amounts.specs.declared.amount.WrittenAmount.{WrittenAmount}

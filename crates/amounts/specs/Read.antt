@@ -14,7 +14,7 @@ use Rattle.divisors.proofs.Fills.{all_in_range}
 use Rattle.divisors.proofs.Folds.{fold_is}
 use Rattle.divisors.proofs.Kept.{barred_thinned, positive, required_settled}
 use Rattle.divisors.proofs.Makes.{fold_of_lem, thin_of_lem}
-use Rattle.leaf.specs.Faults.{found, refused, at_byte}
+use Rattle.faults.specs.Faults.{found, refused, at_byte}
 use Rattle.leaf.specs.Kind.{Lawful, WellRead, is_bound, is_value_window}
 use Rattle.leaf.proofs.Chains.{next_both}
 use Rattle.amounts.specs.Amounts.{amounts}

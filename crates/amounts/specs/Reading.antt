@@ -4,7 +4,7 @@ use Rattle.std.specs.Prelude.{ℕ, zero, suc, ◌^◌, Bool, cond, not, ◌&&◌
 use Rattle.divisors.specs.declared.fraction.Fraction.{Fraction}
 use Rattle.divisors.specs.declared.row.Row.{Row}
 use Rattle.divisors.specs.Rows.{fractions}
-use Rattle.leaf.specs.Faults.{Answer, found, refused, next, at_byte}
+use Rattle.faults.specs.Faults.{Answer, found, refused, next, at_byte}
 use Rattle.leaf.specs.Numbers.{has_bit, number_at}
 use Rattle.leaf.specs.Reading.{byte_at}
 use Rattle.leaf.specs.Windows.{bounds_at as bounds_read}

@@ -1,7 +1,7 @@
 -- Leaves worked by hand.
 use Rattle.std.specs.Prelude.{◌≡◌, ℕ, ◌-◌, ◌^◌, true, false, [], ◌∷◌, ℤ, pos, neg_ℤ, Some, None, Ok, Err}
 use Rattle.divisors.specs.Laws.{over}
-use Rattle.leaf.specs.Faults.{found, refused, at_byte, unplaced}
+use Rattle.faults.specs.Faults.{found, refused, at_byte, unplaced}
 use Rattle.leaf.specs.Layouts.{bytes_of}
 use Rattle.amounts.specs.Grammar.{amount_layout}
 use Rattle.amounts.specs.declared.amount_leaf.AmountLeaf.{AmountLeaf}

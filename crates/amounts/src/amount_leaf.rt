@@ -4,7 +4,7 @@ ghost use Rattle.amounts.specs.Making.{MakerJudged, after, made_of};
 ghost use Rattle.amounts.specs.Meaning.{Means, value_of};
 ghost use Rattle.amounts.specs.Worked.{WorkedLeaves};
 ghost use Rattle.divisors.specs.Written.{refusal_of, refusal_of_both};
-ghost use Rattle.leaf.specs.Faults.{told};
+ghost use Rattle.faults.specs.Faults.{told};
 ghost use Rattle.leaf.specs.Kind.{Lawful, is_value_window};
 ghost use Rattle.std.specs.Prelude.{◌≡◌, true, IfOk, None, Ok, OnOk};
 

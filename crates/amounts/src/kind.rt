@@ -1,7 +1,7 @@
 ghost use Rattle.amounts.specs.Amounts.{amounts};
 ghost use Rattle.amounts.specs.Grammar.{AmountsStand};
 ghost use Rattle.amounts.specs.Meaning.{ReadMeans};
-ghost use Rattle.leaf.specs.Faults.{Fills};
+ghost use Rattle.faults.specs.Faults.{Fills};
 ghost use Rattle.std.specs.Prelude.{◌≡◌};
 ghost use Rattle.amounts.specs.Shows.{amounts_laws};
 

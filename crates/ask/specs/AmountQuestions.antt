@@ -2,7 +2,7 @@
 use Rattle.std.specs.Prelude.{ℕ, List, ℤ, Ok, Err, Option, Result}
 use Rattle.divisors.specs.declared.fraction.Fraction.{Fraction}
 use Rattle.notation.specs.Text.{divisors_of}
-use Rattle.leaf.specs.Faults.{Refused}
+use Rattle.faults.specs.Faults.{Refused}
 use Rattle.leaf.specs.Kind.{admits}
 use Rattle.amounts.specs.declared.amount.WrittenAmount.{WrittenAmount}
 use Rattle.amounts.specs.declared.amount_leaf.AmountLeaf.{AmountLeaf}

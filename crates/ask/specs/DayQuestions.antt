@@ -1,6 +1,6 @@
 -- What a question about a day leaf comes to.
 use Rattle.std.specs.Prelude.{ℕ, List, Some, None, Ok, Err, Option, Result}
-use Rattle.leaf.specs.Faults.{Refused}
+use Rattle.faults.specs.Faults.{Refused}
 use Rattle.leaf.specs.Kind.{admits}
 use Rattle.days.specs.declared.calendar.Date.{Date}
 use Rattle.days.specs.declared.day_leaf.DayLeaf.{DayLeaf}

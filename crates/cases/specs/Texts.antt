@@ -1,7 +1,7 @@
 -- The answer to a sheet, as a case writes it.
 use Rattle.std.specs.Prelude.{ℕ, ◌/◌, ◌%◌, false, List, [], ◌∷◌, ◌++◌, codes, decimal, flat_map, Some, None, Option}
 use Rattle.std.specs.Fmt.{digit_glyph}
-use Rattle.leaf.specs.Faults.{Refused, layer_name}
+use Rattle.faults.specs.Faults.{Refused, layer_name}
 
 -- two hexadecimal digits
 abbrev pub byte_text : ℕ → List ℕ

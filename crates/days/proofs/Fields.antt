@@ -3,7 +3,7 @@ use Rattle.std.specs.Prelude.{◌≡◌, ℕ, ◌+◌, ◌*◌, ◌<◌, Bool, t
 use Rattle.std.proofs.Common.{sym, ap, subst, ◌∙◌, arith, ⊎_elim}
 use Rattle.std.proofs.lemmas.Bool.{cond-true, cond-false, cases_Bool, ltb-true}
 use Rattle.std.proofs.lemmas.List.{append-nil, append_assoc}
-use Rattle.leaf.specs.Faults.{Answer, Refused, found, refused, next, at_byte}
+use Rattle.faults.specs.Faults.{Answer, Refused, found, refused, next, at_byte}
 use Rattle.leaf.specs.Fields.{field_at}
 use Rattle.leaf.specs.Numbers.{bit_of, has_bit, number_at}
 use Rattle.leaf.specs.Windows.{bound_at, value_at, written}

@@ -2,7 +2,7 @@
 use Rattle.std.specs.Prelude.{◌≡◌, ℕ, ◌+◌, ◌*◌, ◌^◌, ◌<◌, Bool, true, false, ◌&&◌, List, [], ◌∷◌, ◌++◌, drop, Some, None, Option, is_some, nat_le, nat_lt, refl}
 use Rattle.std.proofs.Common.{sym, ap, subst, ◌∙◌, arith}
 use Rattle.std.proofs.lemmas.Bool.{and_parts, and_from, leb-true, ltb-true, true≢false}
-use Rattle.leaf.specs.Faults.{Answer, found, refused, next}
+use Rattle.faults.specs.Faults.{Answer, found, refused, next}
 use Rattle.leaf.specs.Encoding.{Bytes}
 use Rattle.leaf.specs.Fields.{Stands, Unfit, Reached, here, field_at}
 use Rattle.leaf.specs.Layouts.{LeafGrammar, is_of_field}

@@ -1,7 +1,7 @@
 -- The maker of day leaves by its tests.
 use Rattle.std.specs.Prelude.{◌≡◌, ℕ, cond, [], ◌∷◌, Ok, Err, Option, Result, nat_le, refl}
 use Rattle.std.proofs.Common.{sym, ap, subst, ◌∙◌}
-use Rattle.leaf.specs.Faults.{Refused, then, unplaced}
+use Rattle.faults.specs.Faults.{Refused, then, unplaced}
 use Rattle.leaf.specs.Tests.{Decided, decided, window_tests}
 use Rattle.leaf.specs.Windows.{written}
 use Rattle.leaf.specs.declared.bounds.Bounds.{Bounds}

@@ -1,6 +1,6 @@
 -- The bytes of a day leaf, and on which condition each answer of its reader comes.
 use Rattle.std.specs.Prelude.{◌≡◌, ℕ, ◌+◌, ◌*◌, Bool, true, false, ◌&&◌, ◌↔◌, List, [], ◌∷◌, ◌++◌, drop, Some, None, Option, is_some, nat_lt}
-use Rattle.leaf.specs.Faults.{refused, at_byte}
+use Rattle.faults.specs.Faults.{refused, at_byte}
 use Rattle.leaf.specs.Encoding.{Bytes}
 use Rattle.leaf.specs.Fields.{Shape, byte, number, Fields, NumberDue}
 use Rattle.leaf.specs.Layouts.{Layout, LeafGrammar}

@@ -1,6 +1,6 @@
 -- The maker of day leaves, and its refusals in their order: no such day (7), the window (8), the weekday set (9).
 use Rattle.std.specs.Prelude.{ℕ, cond, List, [], ◌∷◌, ◌++◌, Ok, Err, Option, Result, nat_le}
-use Rattle.leaf.specs.Faults.{Refused, then, unplaced}
+use Rattle.faults.specs.Faults.{Refused, then, unplaced}
 use Rattle.leaf.specs.Tests.{Test, Decided, window_tests}
 use Rattle.leaf.specs.Windows.{window_of, written}
 use Rattle.days.specs.declared.calendar.Date.{Date}

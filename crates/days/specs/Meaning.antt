@@ -1,7 +1,7 @@
 -- What a day leaf admits, in the words of the dates and weekdays that were written.
 use Rattle.std.specs.Prelude.{◌≡◌, ℕ, ◌≤◌, true, List, Some, Decides, Option}
 use Rattle.leaf.specs.Encoding.{Bytes}
-use Rattle.leaf.specs.Faults.{found}
+use Rattle.faults.specs.Faults.{found}
 use Rattle.leaf.specs.Layouts.{LeafStands}
 use Rattle.leaf.specs.Numbers.{has_bit}
 use Rattle.leaf.specs.Kind.{admits}

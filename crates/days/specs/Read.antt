@@ -2,7 +2,7 @@
 use Rattle.std.specs.Prelude.{◌≡◌, ℕ, ◌<◌, ◌≤◌, Bool, true, List, length, Some, nat_lt, refl}
 use Rattle.std.proofs.Common.{subst, arith}
 use Rattle.std.proofs.lemmas.Bool.{cond_both}
-use Rattle.leaf.specs.Faults.{Answer, found, refused, at_byte}
+use Rattle.faults.specs.Faults.{Answer, found, refused, at_byte}
 use Rattle.leaf.specs.declared.bounds.Bounds.{Bounds}
 use Rattle.leaf.specs.Numbers.{number_at}
 use Rattle.leaf.proofs.Ends.{Window as Within, bounds_end as bounds_within}

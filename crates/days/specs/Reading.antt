@@ -1,7 +1,7 @@
 -- A day leaf on a sheet: flags, year, month and day of each bound present, the weekday set.
 use Rattle.std.specs.Prelude.{ℕ, Bool, cond, List, nat_lt}
 use Rattle.leaf.specs.declared.bounds.Bounds.{Bounds}
-use Rattle.leaf.specs.Faults.{Answer, found, refused, next, at_byte}
+use Rattle.faults.specs.Faults.{Answer, found, refused, next, at_byte}
 use Rattle.leaf.specs.Numbers.{number_at}
 use Rattle.leaf.specs.Reading.{byte_at}
 use Rattle.leaf.specs.Windows.{bounds_at as bounds_read}

@@ -1,6 +1,6 @@
 -- Leaves worked by hand.
 use Rattle.std.specs.Prelude.{◌≡◌, ℕ, [], ◌∷◌, Some, None, Ok, Err}
-use Rattle.leaf.specs.Faults.{refused, at_byte, unplaced}
+use Rattle.faults.specs.Faults.{refused, at_byte, unplaced}
 use Rattle.leaf.specs.Layouts.{bytes_of}
 use Rattle.days.specs.declared.calendar.Date.{Date}
 use Rattle.days.specs.Grammar.{day_layout}

@@ -1,7 +1,7 @@
 ghost use Rattle.days.specs.Days.{days};
 ghost use Rattle.days.specs.Grammar.{DaysStand};
 ghost use Rattle.days.specs.Meaning.{ReadMeans};
-ghost use Rattle.leaf.specs.Faults.{Fills};
+ghost use Rattle.faults.specs.Faults.{Fills};
 ghost use Rattle.std.specs.Prelude.{◌≡◌};
 ghost use Rattle.days.specs.Shows.{days_laws};
 

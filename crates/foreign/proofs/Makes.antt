@@ -1,8 +1,8 @@
 -- The leaves of bytes, one by one: those read so far stand in front in the table.
 use Rattle.std.proofs.Common.{◌≡◌, ℕ, zero, suc, ◌+◌, ◌-◌, ◌<◌, List, [], ◌∷◌, ◌++◌, length, take, Ok, Err, sym, refl, ap, ◌∙◌, arith, rules, slice_set}
 use Rattle.std.proofs.lemmas.List.{append_assoc, append-nil, take_more_set, take-set}
-use Rattle.leaf.specs.declared.fault.Fault.{Fault}
-use Rattle.leaf.specs.Faults.{Answer, found, refused, Fills}
+use Rattle.faults.specs.declared.fault.Fault.{Fault}
+use Rattle.faults.specs.Faults.{Answer, found, refused, Fills}
 use Rattle.leaf.specs.Kind.{Kind, Laws, Lawful, WellRead}
 use Rattle.list.specs.Lists.{All}
 use Rattle.list.specs.Sheets.{judged}

@@ -1,7 +1,7 @@
 -- What callers in C are shown.
 use Rattle.std.specs.Prelude.{◌≡◌, ℕ, Bool, true, cond, List, [], ◌∷◌, length, take, Some, None, vec_items, Option}
 use Rattle.divisors.specs.declared.fraction.Fraction.{Fraction}
-use Rattle.leaf.specs.Faults.{Refused}
+use Rattle.faults.specs.Faults.{Refused}
 use Rattle.leaf.specs.Kind.{Kind}
 use Rattle.list.specs.Held.{stopped}
 use Rattle.list.specs.Runs.{lines, run}

@@ -2,7 +2,7 @@
 use Rattle.std.specs.Prelude.{◌≡◌, ℕ, Bool, true, false, cond, ◌⊎◌, List, [], ◌∷◌, ◌++◌, Some, None, Ok, Err, Option, Result, is_some, refl}
 use Rattle.std.proofs.Common.{sym, ap, subst, ◌∙◌, arith, inl, inr, ⊎_elim}
 use Rattle.std.proofs.lemmas.Bool.{cond-true, cond-false, cases_Bool, true≢false, false≢true}
-use Rattle.leaf.specs.Faults.{Refused, then, unplaced}
+use Rattle.faults.specs.Faults.{Refused, then, unplaced}
 use Rattle.leaf.specs.Kind.{is_window_of}
 use Rattle.leaf.specs.Tests.{Test, decided, Decided, is_valued, window_tests, WindowsJudged}
 use Rattle.leaf.specs.Windows.{bound, valued, window_of, written}

@@ -1,7 +1,7 @@
 -- Where the bounds of a leaf end on a sheet, and that they are values.
 use Rattle.std.proofs.Common.{◌≡◌, ℕ, ◌≤◌, Bool, true, false, List, length, Some, None, Option, refl, subst, arith}
 use Rattle.leaf.specs.declared.bounds.Bounds.{Bounds}
-use Rattle.leaf.specs.Faults.{Answer, found, refused}
+use Rattle.faults.specs.Faults.{Answer, found, refused}
 use Rattle.leaf.specs.Numbers.{has_bit}
 use Rattle.leaf.specs.Windows.{bound_at, bounds_at, value_at}
 use Rattle.leaf.proofs.Chains.{next_both, Ends, ends_found}

@@ -3,7 +3,7 @@ use Rattle.std.specs.Prelude.{◌≡◌, ℕ, ◌+◌, ◌<◌, ◌≤◌, ◌^�
 use Rattle.std.proofs.Common.{zero, suc, drop-drop, sym, ap, ◌∙◌, subst, inl, inr, ⊎_elim, arith}
 use Rattle.std.proofs.lemmas.Bool.{cond-true, cond-false, cases_Bool, true≢false}
 use Rattle.std.proofs.lemmas.List.{append_assoc, length-append, take-append-drop}
-use Rattle.leaf.specs.Faults.{Answer, Refused, found, refused, next, at_byte}
+use Rattle.faults.specs.Faults.{Answer, Refused, found, refused, next, at_byte}
 use Rattle.leaf.specs.Encoding.{Written, Bytes, encode}
 use Rattle.leaf.specs.Fields.{Shape, byte, number, Fields, Stands, Complete, over, more, EndsEarly, BadNumber, Unfit, Reached, here, past}
 use Rattle.leaf.specs.Layouts.{Layout, spelled, spelled_leaf, is_of_field, bytes_of, LeafStands, OneAnswer, LeafJudged, LeafGrammar}

@@ -2,7 +2,7 @@
 use Rattle.std.proofs.Common.{◌≡◌, ℕ, zero, suc, ◌+◌, ◌*◌, ◌%◌, ◌^◌, ◌<◌, ◌≤◌, true, false, eqb, ltb, ◌⊎◌, List, [], ◌∷◌, ◌++◌, length, take, drop, sym, refl, ap, ◌∙◌, subst, inl, inr, ⊎_elim, arith}
 use native.Mathlib.Numerals.{unary_clauses}
 use Rattle.std.proofs.lemmas.Bool.{cond_both, cond-true, cond-false, cases_lt, ltb-true, ltb-false, lt-ltb, le-ltb, eq-eqb, ne_eqb, cases_eq}
-use Rattle.leaf.specs.Faults.{Answer, Refused, at_byte, found, refused}
+use Rattle.faults.specs.Faults.{Answer, Refused, at_byte, found, refused}
 use Rattle.leaf.specs.Numbers.{Groups, short, long, whole, behind, groups_of, proper, judged, number_at}
 use Rattle.leaf.specs.Encoding.{Follow, value, Spelt, Written, CutShort, Overlong, Numbers, OneOfThree}
 

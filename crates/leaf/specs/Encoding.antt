@@ -1,6 +1,6 @@
 -- How a number stands in a sheet, whatever reads it: what is written, what breaks off, what is no number.
 use Rattle.std.specs.Prelude.{◌≡◌, ℕ, zero, suc, ◌+◌, ◌*◌, ◌/◌, ◌%◌, ◌^◌, ◌<◌, ◌≤◌, cond, ◌⊎◌, ◌↔◌, List, [], ◌∷◌, ◌++◌, length, take, drop, nat_lt}
-use Rattle.leaf.specs.Faults.{Answer, found, refused, at_byte}
+use Rattle.faults.specs.Faults.{Answer, found, refused, at_byte}
 use Rattle.leaf.specs.Numbers.{number_at}
 
 -- each of these bytes has its top bit set: another group follows

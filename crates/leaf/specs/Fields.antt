@@ -1,6 +1,6 @@
 -- A leaf on a sheet is a row of fields: its flags byte, then numbers. What may stand in a field, and which fields that brings, is the kind's.
 use Rattle.std.specs.Prelude.{◌≡◌, ℕ, ◌+◌, Bool, true, false, cond, List, [], ◌∷◌, ◌++◌, drop}
-use Rattle.leaf.specs.Faults.{Answer, found, refused, next, at_byte}
+use Rattle.faults.specs.Faults.{Answer, found, refused, next, at_byte}
 use Rattle.leaf.specs.Numbers.{number_at}
 use Rattle.leaf.specs.Reading.{byte_at}
 use Rattle.leaf.specs.Encoding.{Written, CutShort, Overlong}

@@ -1,6 +1,6 @@
 -- What a kind of leaf means, and the laws that it shows. A leaf is a window of values with a rule.
 use Rattle.std.specs.Prelude.{◌≡◌, ℕ, ◌<◌, ◌≤◌, Bool, true, false, cond, not, ◌&&◌, ◌||◌, ◌⊎◌, List, length, Some, None, Option}
-use Rattle.leaf.specs.Faults.{Answer, found, refused}
+use Rattle.faults.specs.Faults.{Answer, found, refused}
 
 -- The meaning of a kind: values of type V, leaves of type L. Every member answers for every leaf, lawful or not.
 pub record Kind (V L : Type 0) : Type 0 where

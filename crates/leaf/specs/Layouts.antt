@@ -1,6 +1,6 @@
 -- How the leaves of a kind stand on a sheet: their bytes, and on which condition each answer of their reader comes.
 use Rattle.std.specs.Prelude.{◌≡◌, ℕ, ◌+◌, Bool, true, false, not, ◌&&◌, ◌↔◌, ◌⊎◌, List, [], ◌∷◌, ◌++◌, length, drop, ◌==◌, nat_le}
-use Rattle.leaf.specs.Faults.{Answer, found, refused, at_byte}
+use Rattle.faults.specs.Faults.{Answer, found, refused, at_byte}
 use Rattle.leaf.specs.Encoding.{Bytes, encode}
 use Rattle.leaf.specs.Fields.{Fields, EndsEarly, BadNumber, Unfit}
 

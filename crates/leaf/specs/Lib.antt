@@ -1,4 +1,3 @@
-pub mod Faults
 pub mod Numbers
 pub mod Encoding
 pub mod Kind

@@ -1,8 +1,8 @@
 -- A sheet that is read part by part.
 use Rattle.std.specs.Prelude.{◌≡◌, ℕ, ◌+◌, List, [], ◌∷◌, length, drop, Ok, Err, Result}
-use Rattle.leaf.specs.declared.fault.Fault.{Fault}
+use Rattle.faults.specs.declared.fault.Fault.{Fault}
 use Rattle.leaf.specs.declared.reader.Reader.{Reader}
-use Rattle.leaf.specs.Faults.{Answer, found, refused, at_byte, shown}
+use Rattle.faults.specs.Faults.{Answer, found, refused, at_byte, shown}
 
 -- what a call read up to a byte, or its refusal
 abbrev pub up_to : {A : Type 0} → Result A Fault → ℕ → Answer A

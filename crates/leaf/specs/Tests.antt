@@ -1,6 +1,6 @@
 -- What a maker refuses: tests in their order, each with a number, which comes where the test is the first to fail.
 use Rattle.std.specs.Prelude.{◌≡◌, ℕ, Bool, true, false, cond, ◌↔◌, ◌⊎◌, List, [], ◌∷◌, Some, None, Ok, Err, Option, Result, is_some}
-use Rattle.leaf.specs.Faults.{Refused, unplaced}
+use Rattle.faults.specs.Faults.{Refused, unplaced}
 use Rattle.leaf.specs.Kind.{is_window_of}
 use Rattle.leaf.specs.Windows.{window_of, written}
 

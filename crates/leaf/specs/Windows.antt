@@ -1,7 +1,7 @@
 -- Windows of values as written, and as they stand on a sheet behind their flags.
 use Rattle.std.specs.Prelude.{ℕ, Bool, true, false, cond, List, Some, None, Ok, Err, Option, Result}
 use Rattle.leaf.specs.declared.bounds.Bounds.{Bounds}
-use Rattle.leaf.specs.Faults.{Answer, Refused, found, refused, next, then, at_byte, unplaced}
+use Rattle.faults.specs.Faults.{Answer, Refused, found, refused, next, then, at_byte, unplaced}
 use Rattle.leaf.specs.Kind.{is_window_of}
 use Rattle.leaf.specs.Numbers.{has_bit}
 

@@ -1,10 +1,10 @@
-ghost use Rattle.leaf.specs.Faults.{Fills};
+ghost use Rattle.faults.specs.Faults.{Fills};
 ghost use Rattle.leaf.specs.Kind.{Joins, Kind, Lawful, Laws, before, same_rule, touches};
 ghost use Rattle.leaf.specs.Kind.{admits as admitted, covers as covering, join as joined};
 ghost use Rattle.std.specs.Prelude.{◌≡◌, true};
 
 use crate::bounds::{Bounds, contains, hull, includes, is_low};
-use crate::fault::Fault;
+use faults::Fault;
 
 // A kind of leaf over the values V. Each question answers for every leaf, lawful or not; the laws are of lawful ones.
 pub trait Leaf<V: Copy>: Copy {

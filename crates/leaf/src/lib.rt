@@ -2,7 +2,6 @@
 #![tactic(auto)]
 
 mod bounds;
-mod fault;
 mod kind;
 mod numbers;
 mod reader;
@@ -10,7 +9,7 @@ mod sheet;
 mod written;
 
 pub use bounds::{Bounds, contains, hull, includes};
-pub use fault::{Fault, Layer, Refusal};
+pub use faults::{Fault, Layer, Refusal};
 pub use kind::{Leaf, adjoins, admits, bounds_of, covers, join, no_later};
 pub use numbers::number;
 pub use reader::Reader;

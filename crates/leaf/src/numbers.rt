@@ -1,10 +1,10 @@
 ghost use Rattle.std.specs.Prelude.{◌≡◌, ◌<◌, ◌≤◌, length, IfOk};
 ghost use Rattle.leaf.specs.Encoding.{NumbersStand};
-ghost use Rattle.leaf.specs.Faults.{seen};
+ghost use Rattle.faults.specs.Faults.{seen};
 ghost use Rattle.leaf.specs.Numbers.{groups_of, judged, moved, number_at};
 
-use crate::fault::{Fault, Refusal};
 use crate::sheet::rest_of;
+use faults::{Fault, Refusal};
 
 // The most bytes of a number.
 const MOST: u32 = 10;

@@ -1,9 +1,9 @@
 ghost use Rattle.leaf.specs.Numbers.{number_at};
 ghost use Rattle.leaf.specs.Reading.{Reads, byte_at};
 
-use crate::fault::{Fault, Refusal};
 use crate::numbers::number;
 use crate::sheet::rest_of;
+use faults::{Fault, Refusal};
 
 // A sheet, and the byte where the next part starts. After a refusal it may stand anywhere.
 #[derive(Clone, Copy)]

@@ -1,4 +1,4 @@
-ghost use Rattle.leaf.specs.Faults.{Answer, told};
+ghost use Rattle.faults.specs.Faults.{Answer, told};
 ghost use Rattle.leaf.specs.Reading.{Reads};
 ghost use Rattle.leaf.specs.Tests.{WindowsJudged};
 ghost use Rattle.leaf.specs.Windows.{bound, bound_at, bounds_at, window_of};
@@ -6,9 +6,9 @@ ghost use Rattle.std.specs.Ordering.{partial_le};
 ghost use Rattle.std.specs.Prelude.{◌≡◌, ℕ, Bool, List, Option};
 
 use crate::bounds::Bounds;
-use crate::fault::{Fault, Refusal};
 use crate::reader::Reader;
 use crate::sheet::has_flag;
+use faults::{Fault, Refusal};
 
 // A bound as written, which may be no value.
 pub trait WrittenBound: Copy {

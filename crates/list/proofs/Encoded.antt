@@ -4,7 +4,7 @@ use Rattle.std.proofs.Common.{sym, ap, subst, ◌∙◌, arith}
 use Rattle.std.proofs.lemmas.Bool.{true≢false}
 use Rattle.std.proofs.lemmas.List.{append_assoc, length-append}
 use Rattle.leaf.specs.Encoding.{Bytes}
-use Rattle.leaf.specs.Faults.{at_byte}
+use Rattle.faults.specs.Faults.{at_byte}
 use Rattle.leaf.specs.Kind.{Kind, Laws, WellRead}
 use Rattle.leaf.specs.Layouts.{Layout, LeafGrammar, bytes_of}
 use Rattle.list.specs.Lists.{All}

@@ -1,8 +1,8 @@
 -- The loop over the leaves of a sheet.
 use Rattle.std.proofs.Common.{◌≡◌, ℕ, zero, suc, ◌+◌, ◌-◌, ◌<◌, ◌≤◌, cond, ltb, List, length, Some, None, Ok, Err, Option, sym, refl, ap, ◌∙◌, subst, arith}
 use Rattle.std.proofs.lemmas.Bool.{cond-true, cond-false, lt-ltb, le-ltb}
-use Rattle.leaf.specs.declared.fault.Fault.{Fault}
-use Rattle.leaf.specs.Faults.{Refused, Answer, found, refused, Fills}
+use Rattle.faults.specs.declared.fault.Fault.{Fault}
+use Rattle.faults.specs.Faults.{Refused, Answer, found, refused, Fills}
 use Rattle.leaf.specs.Kind.{Kind, Laws, before}
 use Rattle.list.specs.Lists.{inserted}
 use Rattle.list.specs.Sheets.{Outcome, ends, after_leaf, judged, accepted_at, put_in, fed, sheet_outcome}

@@ -3,7 +3,7 @@ use Rattle.std.specs.Prelude.{◌≡◌, ℕ, zero, suc, ◌+◌, ◌-◌, ◌<�
 use Rattle.std.proofs.Common.{sym, ap, subst, ◌∙◌, arith, ⊎_elim}
 use Rattle.std.proofs.lemmas.Bool.{cond_both, cond-true, cond-false, cases_Bool, lt-ltb, le-ltb, ltb-true, ltb-false, le-leb, lt-leb}
 use Rattle.std.proofs.lemmas.List.{append-nil, append_assoc, length-append}
-use Rattle.leaf.specs.Faults.{Answer, Refused, found, refused, at_byte}
+use Rattle.faults.specs.Faults.{Answer, Refused, found, refused, at_byte}
 use Rattle.leaf.specs.Kind.{Kind, Laws, WellRead, before}
 use Rattle.list.specs.Lists.{any, inserted}
 use Rattle.list.specs.Sheets.{Outcome, accepted_at, after_leaf, ends, fed, first_byte, is_full, judged, sheet_outcome}

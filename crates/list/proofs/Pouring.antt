@@ -1,7 +1,7 @@
 -- What an insert or a sheet does is to put the leaves that it accepts into their places, one after the other; all of them are lawful.
 use Rattle.std.proofs.Common.{◌≡◌, ℕ, zero, suc, ◌<◌, ◌≤◌, Bool, true, false, cond, ltb, ◌⊎◌, List, [], ◌∷◌, length, Some, None, refl, subst, inl, inr}
 use Rattle.std.proofs.lemmas.Bool.{cond_both}
-use Rattle.leaf.specs.Faults.{Refused, Answer, found, refused, at_byte}
+use Rattle.faults.specs.Faults.{Refused, Answer, found, refused, at_byte}
 use Rattle.leaf.specs.Kind.{Kind, Laws, Lawful, WellRead, before}
 use Rattle.list.specs.Lists.{All, Any, inserted}
 use Rattle.list.specs.Sheets.{Outcome, ends, after_leaf, judged, is_full, accepted_at, fed, first_byte, sheet_outcome}

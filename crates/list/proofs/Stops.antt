@@ -3,7 +3,7 @@ use Rattle.std.specs.Prelude.{◌≡◌, ℕ, ◌<◌, ◌≤◌, true, false, �
 use Rattle.std.proofs.Common.{sym, ap, subst, ◌∙◌, arith, inl, inr, ⊎_elim}
 use Rattle.std.proofs.lemmas.Bool.{true≢false}
 use Rattle.leaf.specs.Encoding.{Bytes}
-use Rattle.leaf.specs.Faults.{Answer, Refused, found, refused, at_byte}
+use Rattle.faults.specs.Faults.{Answer, Refused, found, refused, at_byte}
 use Rattle.leaf.specs.Fields.{BadNumber, EndsEarly, Unfit}
 use Rattle.leaf.specs.Kind.{Kind, Laws}
 use Rattle.leaf.specs.Layouts.{Layout, LeafGrammar, LeafJudged, LeafStands, OneAnswer, fields_due, is_of_field}

@@ -1,7 +1,7 @@
 -- Sheets of a kind whose leaves have a layout, in bytes.
 use Rattle.std.specs.Prelude.{◌≡◌, ℕ, ◌+◌, ◌-◌, ◌≤◌, true, cond, List, [], ◌∷◌, ◌++◌, map, length, take, Some, None, nat_le}
 use Rattle.leaf.specs.Encoding.{Bytes}
-use Rattle.leaf.specs.Faults.{at_byte}
+use Rattle.faults.specs.Faults.{at_byte}
 use Rattle.leaf.specs.Kind.{Kind}
 use Rattle.leaf.specs.Layouts.{Layout, bytes_of}
 use Rattle.list.specs.Lists.{All}

@@ -1,7 +1,7 @@
 -- What the fields of a list say.
 use Rattle.std.specs.Prelude.{◌≡◌, ℕ, true, cond, List, [], ◌∷◌, ◌++◌, length, take, Some, None, Ok, Err, Option, Result}
-use Rattle.leaf.specs.declared.fault.Fault.{Fault}
-use Rattle.leaf.specs.Faults.{Refused, shown}
+use Rattle.faults.specs.declared.fault.Fault.{Fault}
+use Rattle.faults.specs.Faults.{Refused, shown}
 use Rattle.leaf.specs.Kind.{Kind, Lawful, before}
 use Rattle.list.specs.Lists.{All, Pairs}
 use Rattle.list.specs.Sheets.{Outcome}

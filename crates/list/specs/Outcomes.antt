@@ -1,6 +1,6 @@
 -- What becomes of a sheet: on which condition each outcome comes, and what comes of a sheet that is written from leaves.
 use Rattle.std.specs.Prelude.{◌≡◌, ℕ, ◌+◌, ◌-◌, ◌<◌, ◌≤◌, true, false, cond, ◌↔◌, List, [], ◌∷◌, ◌++◌, map, length, take, Some, None, nat_le}
-use Rattle.leaf.specs.Faults.{Refused, found, refused, at_byte}
+use Rattle.faults.specs.Faults.{Refused, found, refused, at_byte}
 use Rattle.leaf.specs.Kind.{Kind, before}
 use Rattle.list.specs.Lists.{inserted}
 use Rattle.list.specs.Sheets.{Outcome, ends, is_full, sheet_outcome}

@@ -1,6 +1,6 @@
 -- What a sheet does to the leaves held: its leaves are inserted in turn, each once it is read, up to the sheet's end or a refusal.
 use Rattle.std.specs.Prelude.{ℕ, zero, suc, Bool, cond, List, [], ◌∷◌, length, Some, None, Option, nat_le, nat_lt}
-use Rattle.leaf.specs.Faults.{Refused, Answer, found, refused, at_byte}
+use Rattle.faults.specs.Faults.{Refused, Answer, found, refused, at_byte}
 use Rattle.leaf.specs.Kind.{Kind, before}
 use Rattle.list.specs.Lists.{inserted}
 

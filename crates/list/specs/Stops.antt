@@ -1,7 +1,7 @@
 -- By which number a sheet is stopped, of a kind whose leaves have a layout: each on its condition and on no other.
 use Rattle.std.specs.Prelude.{◌≡◌, ℕ, ◌<◌, ◌≤◌, true, false, ◌↔◌, ◌⊎◌, List, [], ◌∷◌, length, Some, None}
 use Rattle.leaf.specs.Encoding.{Bytes}
-use Rattle.leaf.specs.Faults.{at_byte}
+use Rattle.faults.specs.Faults.{at_byte}
 use Rattle.leaf.specs.Fields.{BadNumber, EndsEarly, Unfit}
 use Rattle.leaf.specs.Kind.{Kind}
 use Rattle.leaf.specs.Layouts.{Layout, LeafStands, fields_due, is_of_field}

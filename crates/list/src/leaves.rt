@@ -1,5 +1,5 @@
 ghost use Rattle.std.specs.Prelude.{◌≡◌, ◌≤◌, true, false, List, [], length, take, if◌then◌else◌, ◌==◌, nat_lt, slice_index_or};
-ghost use Rattle.leaf.specs.Faults.{unplaced};
+ghost use Rattle.faults.specs.Faults.{unplaced};
 ghost use Rattle.leaf.specs.Kind.{Lawful, before, admits as admitted};
 ghost use Rattle.list.specs.Lists.{Placed, any};
 ghost use Rattle.list.specs.Runs.{Call, Promised, Promises, after, reading};

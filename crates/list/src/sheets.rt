@@ -1,6 +1,6 @@
 ghost use Rattle.std.specs.Prelude.{◌≡◌, ℕ, ◌<◌, ◌≤◌, List, length, IfErr, IfOk, Some};
 ghost use Rattle.std.specs.Result.{result_err};
-ghost use Rattle.leaf.specs.Faults.{Fills, shown};
+ghost use Rattle.faults.specs.Faults.{Fills, shown};
 ghost use Rattle.leaf.specs.Kind.{before};
 ghost use Rattle.list.specs.Held.{LeadsOn, SameTable, Sound, Tells, Unsettles, held_of, places_of};
 ghost use Rattle.list.specs.Outcomes.{SheetsStand};

@@ -1,6 +1,6 @@
 -- What a question about a leaf comes to.
 use Rattle.std.specs.Prelude.{ℕ, ◌+◌, ◌-◌, ◌^◌, min, Bool, true, false, List, count_by, [], ◌∷◌, ◌==◌, Some, None, Ok, Err, Option, Result}
-use Rattle.leaf.specs.Faults.{number_of}
+use Rattle.faults.specs.Faults.{number_of}
 use Rattle.questions.specs.declared.answer.Objection.{Objection}
 use Rattle.questions.specs.declared.answer.Objection.TheVariants.{Refused, Malformed, OutOfMemory}
 use Rattle.questions.specs.declared.counts.Tally.{Tally}

@@ -2,7 +2,7 @@
 use Rattle.std.proofs.Common.{◌≡◌, ℕ, zero, suc, ◌+◌, ◌≤◌, Bool, true, false, cond, List, [], ◌∷◌, ◌++◌, map, length, nat_lt, Some, None, sym, ap, refl, ◌∙◌, append_assoc, append-nil, arith, length-append}
 use Rattle.std.proofs.lemmas.List.{length-take}
 use Rattle.std.specs.List.{list_any}
-use Rattle.leaf.specs.Faults.{Answer, at_byte, found, refused}
+use Rattle.faults.specs.Faults.{Answer, at_byte, found, refused}
 use Rattle.leaf.specs.Kind.{Kind, before}
 use Rattle.list.specs.Held.{Leads, held_of, places_of}
 use Rattle.list.specs.Lists.{inserted}

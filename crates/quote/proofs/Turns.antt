@@ -1,6 +1,6 @@
 -- One line of a batch more is taken, and the last.
 use Rattle.std.proofs.Common.{◌≡◌, ℕ, ◌+◌, ◌<◌, ◌≤◌, ◌^◌, List, [], ◌∷◌, ◌++◌, length, vec_items, ℤ, Some, None, Option, sym, ap, refl, ◌∙◌, subst, append_assoc, append-nil, arith, length-append}
-use Rattle.leaf.specs.Faults.{Refused}
+use Rattle.faults.specs.Faults.{Refused}
 use Rattle.list.specs.declared.leaves.Leaves.{Leaves}
 use Rattle.amounts.specs.declared.amount_leaf.AmountLeaf.{AmountLeaf}
 use Rattle.days.specs.declared.day_leaf.DayLeaf.{DayLeaf}

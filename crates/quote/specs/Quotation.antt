@@ -1,6 +1,6 @@
 -- What the program prints of a batch.
 use Rattle.std.specs.Prelude.{ℕ, ◌+◌, List, [], ◌∷◌, ◌++◌, length, count_by, codes, decimal, Some, None, Option}
-use Rattle.leaf.specs.Faults.{Refused}
+use Rattle.faults.specs.Faults.{Refused}
 use Rattle.notation.specs.Numbered.{numbered}
 use Rattle.texts.specs.Refusals.{refusal_text}
 use Rattle.amounts.specs.Text.{line_text as amount_text}

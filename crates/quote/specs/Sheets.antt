@@ -1,6 +1,6 @@
 -- Sheets taken one after another, each into the list of its kind: those that begin as sheets of days into one, all others into one of amounts.
 use Rattle.std.specs.Prelude.{ℕ, ◌+◌, Bool, true, false, not, List, [], ◌∷◌, ◌++◌, map, filter, length, ℤ, Some, None, Option}
-use Rattle.leaf.specs.Faults.{Refused}
+use Rattle.faults.specs.Faults.{Refused}
 use Rattle.list.specs.Runs.{Call, accepted, lines, run}
 use Rattle.list.specs.Runs.Call.{sheet}
 use Rattle.list.specs.Sheets.{sheet_outcome}

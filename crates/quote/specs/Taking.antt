@@ -1,6 +1,6 @@
 -- What taking a batch does to the two lists, and what is noted of it.
 use Rattle.std.specs.Prelude.{◌≡◌, ℕ, ◌+◌, ◌-◌, ◌<◌, ◌^◌, min, List, [], ◌∷◌, ◌++◌, length, count_by, vec_items, ℤ, Some, None, Option}
-use Rattle.leaf.specs.Faults.{Refused}
+use Rattle.faults.specs.Faults.{Refused}
 use Rattle.list.specs.Held.{Leads, places_of, stopped}
 use Rattle.list.specs.declared.leaves.Leaves.{Leaves}
 use Rattle.list.specs.declared.sheets.SheetAnswer.{SheetAnswer}

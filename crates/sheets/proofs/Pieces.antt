@@ -1,6 +1,6 @@
 -- What was written, piece by piece, is the output.
 use Rattle.std.proofs.Common.{◌≡◌, ℕ, List, [], ◌∷◌, ◌++◌, Option, ap, ◌∙◌}
-use Rattle.leaf.specs.Faults.{Refused}
+use Rattle.faults.specs.Faults.{Refused}
 use Rattle.leaf.specs.Kind.{Kind}
 use Rattle.texts.specs.Text.{together}
 use Rattle.list.specs.Runs.{lines}

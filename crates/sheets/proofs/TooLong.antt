@@ -2,7 +2,7 @@
 use Rattle.std.proofs.Common.{◌≡◌, ℕ, suc, ◌<◌, ◌≤◌, Bool, true, false, List, [], ◌∷◌, ◌++◌, length, take, ltb, Some, sym, ap, refl, ◌∙◌, arith}
 use Rattle.std.proofs.lemmas.Bool.{cond-true, lt-ltb, ltb-false, ltb-true}
 use Rattle.std.proofs.lemmas.List.{length-take, take_all}
-use Rattle.leaf.specs.Faults.{at_byte}
+use Rattle.faults.specs.Faults.{at_byte}
 use Rattle.leaf.specs.Kind.{Kind}
 use Rattle.texts.specs.Text.{together}
 use Rattle.list.specs.Runs.{reading}

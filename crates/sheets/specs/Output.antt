@@ -1,6 +1,6 @@
 -- What a sheet comes to in a new list: the list's answer, and in text the lines and what refused it.
 use Rattle.std.specs.Prelude.{◌≡◌, ℕ, Bool, true, false, List, [], ◌∷◌, ◌++◌, Some, None, vec_items, Option}
-use Rattle.leaf.specs.Faults.{Refused}
+use Rattle.faults.specs.Faults.{Refused}
 use Rattle.leaf.specs.Kind.{Kind}
 use Rattle.texts.specs.Refusals.{refusal_text}
 use Rattle.texts.specs.Text.{together}

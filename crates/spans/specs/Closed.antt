@@ -1,6 +1,6 @@
 -- A kind at days without a day: what each part means goes by the kind below.
 use Rattle.std.specs.Prelude.{ℕ, ◌-◌, ◌^◌, Bool, true, false, cond, not, ◌&&◌, List, Some, None, Option, ◌==◌, nat_le, nat_lt}
-use Rattle.leaf.specs.Faults.{Answer, found, refused, at_byte, next}
+use Rattle.faults.specs.Faults.{Answer, found, refused, at_byte, next}
 use Rattle.leaf.specs.Kind.{Kind, ext_le, from}
 use Rattle.leaf.specs.Numbers.{number_at}
 use Rattle.spans.specs.declared.closed.Closing.{Closing}

@@ -2,7 +2,7 @@
 use Rattle.std.specs.Prelude.{◌≡◌, ℕ, ◌+◌, ◌^◌, ◌<◌, ◌≤◌, true, false, ◌&&◌, leb, List, length, Some, None, Option, nat_le, refl}
 use Rattle.std.proofs.Common.{sym, ap, ◌∙◌, arith}
 use Rattle.std.proofs.lemmas.Bool.{and_from, cond_both, le-leb, leb-false, leb-true, lt-leb, ltb-false, ltb-true}
-use Rattle.leaf.specs.Faults.{Answer, found, refused, at_byte}
+use Rattle.faults.specs.Faults.{Answer, found, refused, at_byte}
 use Rattle.leaf.specs.Kind.{Laws, WellRead, is_value_window, ext_le, from, upto}
 use Rattle.leaf.specs.Numbers.{number_at}
 use Rattle.leaf.proofs.Chains.{ends_found, next_both, number_ends}

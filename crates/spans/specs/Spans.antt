@@ -1,6 +1,6 @@
 -- Windows of every day: one rule, and every day on its grid.
 use Rattle.std.specs.Prelude.{ℕ, ◌+◌, ◌^◌, Bool, true, cond, ◌&&◌, leb, List, Some, None, Option, ◌==◌, nat_le, nat_lt}
-use Rattle.leaf.specs.Faults.{Answer, found, refused, at_byte, next}
+use Rattle.faults.specs.Faults.{Answer, found, refused, at_byte, next}
 use Rattle.leaf.specs.Kind.{Kind, ext_le, from, upto}
 use Rattle.leaf.specs.Numbers.{number_at}
 use Rattle.spans.specs.declared.span.Span.{Span}

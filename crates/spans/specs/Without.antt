@@ -2,7 +2,7 @@
 use Rattle.std.specs.Prelude.{◌≡◌, ℕ, ◌-◌, ◌^◌, Bool, true, false, cond, not, ◌&&◌, ◌⊎◌, List, Some, None, Option, ◌==◌, ◌≢◌, nat_le, nat_lt, refl}
 use Rattle.std.proofs.Common.{sym, ap, subst, ◌∙◌, inl, inr, arith}
 use Rattle.std.proofs.lemmas.Bool.{and_from, and_parts, both_ways, cases_Bool, cond_both, eq-eqb, eqb-true, le-leb, leb-false, leb-true, true≢false, false≢true}
-use Rattle.leaf.specs.Faults.{found, refused, at_byte}
+use Rattle.faults.specs.Faults.{found, refused, at_byte}
 use Rattle.leaf.specs.Kind.{Kind, Laws, Lawful, WellRead, ext_le, from, same_rule}
 use Rattle.leaf.specs.Numbers.{number_at}
 use Rattle.leaf.proofs.Chains.{Ends, ends_found, next_both, number_ends}

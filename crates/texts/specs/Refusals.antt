@@ -1,6 +1,6 @@
 -- The text of a refusal: its number, and the byte that it names, if it names one.
 use Rattle.std.specs.Prelude.{ℕ, List, [], ◌∷◌, ◌++◌, Some, None, codes, decimal, Option}
-use Rattle.leaf.specs.Faults.{Refused}
+use Rattle.faults.specs.Faults.{Refused}
 
 abbrev pub place_text : Option ℕ → List ℕ
 place_text None = []

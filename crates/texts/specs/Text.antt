@@ -1,7 +1,7 @@
 -- Texts in a buffer.
 use Rattle.std.specs.Prelude.{◌≡◌, ℕ, ◌+◌, ◌-◌, ◌<◌, ◌≤◌, List, [], ◌∷◌, ◌++◌, length, take, drop, Ok, Err, Result}
-use Rattle.leaf.specs.declared.fault.Fault.{Fault}
-use Rattle.leaf.specs.Faults.{Refused, unplaced, told}
+use Rattle.faults.specs.declared.fault.Fault.{Fault}
+use Rattle.faults.specs.Faults.{Refused, unplaced, told}
 
 -- as much of a text as the buffer has room for from `at` on
 abbrev pub fitting : List ℕ → ℕ → List ℕ → List ℕ

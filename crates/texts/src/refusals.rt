@@ -1,7 +1,7 @@
 ghost use Rattle.std.specs.Prelude.{◌≤◌, length};
 ghost use Rattle.texts.specs.Cursors.{Put};
 ghost use Rattle.texts.specs.Refusals.{place_text, refusal_text};
-ghost use Rattle.leaf.specs.Faults.{shown};
+ghost use Rattle.faults.specs.Faults.{shown};
 
 use crate::cursor::Cursor;
 use crate::lines::Line;

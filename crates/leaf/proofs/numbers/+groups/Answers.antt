@@ -1,6 +1,6 @@
 use Rattle.std.proofs.Common.{◌+◌, get_or, ap, ◌∙◌, inl, inr, arith, ltb-false}
 use Rattle.std.proofs.lemmas.Result.{err_from_is_err_and}
-use Rattle.leaf.specs.Faults.{found, refused}
+use Rattle.faults.specs.Faults.{found, refused}
 use Rattle.leaf.proofs.Steps.{onward, refuses, spoils, finds, assembled}
 use Rattle.leaf.proofs.numbers.+groups.Goals as goal
 use Rattle.leaf.proofs.numbers.+groups.Goals.{then-high-eq0-via-then-high-eq0, then-high-eq0-via-else-high-eq0+then-high-ne0}

@@ -1,6 +1,6 @@
 use Rattle.std.proofs.Common.{rules, ℕ, ℤ, Ok, Option, Result, sym, ap, ◌∙◌, subst}
 use Rattle.leaf.specs.declared.bounds.Bounds.{Bounds}
-use Rattle.leaf.specs.Faults.{Refused, then}
+use Rattle.faults.specs.Faults.{Refused, then}
 use Rattle.amounts.specs.declared.amount_leaf.AmountLeaf.{AmountLeaf}
 use Rattle.amounts.specs.Leaves.{leaf_of}
 use Rattle.amounts.specs.Making.{after, amount_in, window_of}

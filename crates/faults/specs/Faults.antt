@@ -1,10 +1,10 @@
 -- Refusals: the number of each in the table of refusals, the byte that it names, the layer that refused.
 use Rattle.std.specs.Prelude.{◌≡◌, ℕ, cond, List, Some, None, Ok, Err, Option, Result, ◌==◌, codes, nat_lt}
-use Rattle.leaf.specs.declared.fault.Refusal.{Refusal}
-use Rattle.leaf.specs.declared.fault.Refusal.TheVariants.{TooLong, EndsEarly, BadNumber, UnknownByte, BadPart, ManyDivisors, OutOfRange, MinAboveMax, BadWeekdays, TableFull, ShortBuffer}
-use Rattle.leaf.specs.declared.fault.Layer.{Layer}
-use Rattle.leaf.specs.declared.fault.Layer.TheVariants.{Bytes, Leaf, List as ListLayer, Neither}
-use Rattle.leaf.specs.declared.fault.Fault.{Fault}
+use Rattle.faults.specs.declared.fault.Refusal.{Refusal}
+use Rattle.faults.specs.declared.fault.Refusal.TheVariants.{TooLong, EndsEarly, BadNumber, UnknownByte, BadPart, ManyDivisors, OutOfRange, MinAboveMax, BadWeekdays, TableFull, ShortBuffer}
+use Rattle.faults.specs.declared.fault.Layer.{Layer}
+use Rattle.faults.specs.declared.fault.Layer.TheVariants.{Bytes, Leaf, List as ListLayer, Neither}
+use Rattle.faults.specs.declared.fault.Fault.{Fault}
 
 pub record Refused : Type 0 where
   pub number : ℕ
