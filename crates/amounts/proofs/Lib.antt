@@ -2,7 +2,5 @@ pub mod Snaps
 pub mod Listing
 pub mod Writes
 pub mod Works
-pub mod Fields
-pub mod Standing
 pub mod Grammar
 pub mod Making

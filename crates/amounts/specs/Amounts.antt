@@ -1,5 +1,5 @@
 -- The kind of amount leaves.
-use Rattle.std.specs.Prelude.{Bool, true, ◌&&◌, ℤ, Some, None, Option, ◌==◌, unsigned_abs}
+use Rattle.std.specs.Prelude.{Bool, ◌&&◌, ℤ, ◌==◌, unsigned_abs}
 use Rattle.std.specs.Int.Signed.{le_z}
 use Rattle.divisors.specs.Dividing.{bars_no_more, divide_all}
 use Rattle.divisors.specs.Rows.{is_folded, is_thinned}
@@ -8,12 +8,8 @@ use Rattle.leaf.specs.Windows.{hull_of}
 use Rattle.amounts.specs.declared.amount_leaf.AmountLeaf.{AmountLeaf}
 use Rattle.amounts.specs.Values.{incremented, is_amount, next_of, is_on_grid}
 use Rattle.amounts.specs.Rules.{admitted, both_at_most, step}
-use Rattle.amounts.specs.Leaves.{barred, is_window, required}
+use Rattle.amounts.specs.Leaves.{barred, is_bound, is_window, required}
 use Rattle.amounts.specs.Reading.{leaf_at}
-
-abbrev pub is_bound : Option ℤ → Bool
-is_bound None = true
-is_bound (Some v) = is_amount v
 
 -- bounds that are amounts, minimum at most maximum, a folded and a thinned list
 abbrev pub is_lawful : AmountLeaf → Bool

@@ -4,8 +4,10 @@ use Rattle.divisors.specs.declared.fraction.Fraction.{Fraction}
 use Rattle.divisors.specs.declared.row.Row.{Row}
 use Rattle.divisors.specs.Fractions.{none}
 use Rattle.divisors.specs.Rows.{fractions}
+use Rattle.amounts.specs.Values.{is_amount}
 use Rattle.divisors.specs.Written.{barred_of, required_of}
 use Rattle.leaf.specs.Kind.{ext_le, from, upto}
+use Rattle.leaf.specs.Plans.{fits_if}
 use Rattle.amounts.specs.declared.amount_leaf.AmountLeaf.{AmountLeaf}
 
 -- the row that holds a list, with its free places
@@ -17,6 +19,9 @@ required a = fractions a.required
 
 abbrev pub barred : AmountLeaf → List Fraction
 barred a = fractions a.barred
+
+abbrev pub is_bound : Option ℤ → Bool
+is_bound o = fits_if is_amount o
 
 -- minimum at most maximum, where both are there
 abbrev pub is_window : Option ℤ → Option ℤ → Bool

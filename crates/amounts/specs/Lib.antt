@@ -15,6 +15,5 @@ pub mod Nexts
 pub mod RulesLemmas
 pub mod Rows
 pub mod Read
-pub mod Endings
 pub mod InRange
 pub mod Lengths

@@ -9,8 +9,8 @@ use Rattle.divisors.specs.Settled.{settled}
 use Rattle.divisors.specs.Written.{FoldOf, ThinOf, barred_of, required_of}
 use Rattle.leaf.specs.Kind.{Lawful, is_value_window}
 use Rattle.amounts.specs.declared.amount_leaf.AmountLeaf.{AmountLeaf}
-use Rattle.amounts.specs.Amounts.{amounts, is_bound}
-use Rattle.amounts.specs.Leaves.{is_window, leaf_of}
+use Rattle.amounts.specs.Amounts.{amounts}
+use Rattle.amounts.specs.Leaves.{is_bound, is_window, leaf_of}
 use Rattle.amounts.specs.Meaning.{Means}
 use Rattle.amounts.specs.Means.{leaf_means}
 use Rattle.amounts.specs.Rows.{row_of_lem}

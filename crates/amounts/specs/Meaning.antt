@@ -12,8 +12,7 @@ use Rattle.amounts.specs.Values.{is_amount}
 use Rattle.amounts.specs.Amounts.{amounts}
 use Rattle.leaf.specs.Windows.{written}
 use Rattle.amounts.specs.Making.{amount_in}
-use Rattle.amounts.specs.Reading.{Written, leaf_at}
-use Rattle.amounts.specs.Grammar.{amount_layout}
+use Rattle.amounts.specs.Reading.{Written, amount_layout, leaf_at}
 
 -- v is at least the minimum and at most the maximum where they are there, its division by each required divisor gives an
 -- integer (v * q is a whole multiple of p), and its division by no barred one does

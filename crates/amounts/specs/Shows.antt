@@ -14,8 +14,8 @@ use Rattle.divisors.proofs.Padded.{row_is}
 use Rattle.leaf.specs.Kind.{Joins, Lawful, Laws, is_value_window, same_rule}
 use Rattle.leaf.specs.Laws.Hulls.{hull_window, joins_hull}
 use Rattle.amounts.specs.declared.amount_leaf.AmountLeaf.{AmountLeaf}
-use Rattle.amounts.specs.Amounts.{amounts, is_bound, is_lawful}
-use Rattle.amounts.specs.Leaves.{barred, is_window, required}
+use Rattle.amounts.specs.Amounts.{amounts, is_lawful}
+use Rattle.amounts.specs.Leaves.{is_bound, barred, is_window, required}
 use Rattle.amounts.specs.Rules.{admitted, both_at_most, step}
 use Rattle.amounts.specs.Values.{incremented, is_amount, is_on_grid}
 use Rattle.amounts.specs.Makes.{lawful_leaf}

@@ -3,12 +3,11 @@ use Rattle.std.specs.Prelude.{◌≡◌, ℕ, ◌-◌, ◌^◌, true, false, [],
 use Rattle.divisors.specs.Laws.{over}
 use Rattle.faults.specs.Faults.{found, refused, at_byte, unplaced}
 use Rattle.leaf.specs.Layouts.{bytes_of}
-use Rattle.amounts.specs.Grammar.{amount_layout}
 use Rattle.amounts.specs.declared.amount_leaf.AmountLeaf.{AmountLeaf}
 use Rattle.amounts.specs.Amounts.{amounts}
 use Rattle.amounts.specs.Leaves.{leaf_of}
 use Rattle.amounts.specs.Making.{made_of}
-use Rattle.amounts.specs.Reading.{Written, leaf_at}
+use Rattle.amounts.specs.Reading.{Written, amount_layout, leaf_at}
 
 abbrev pub minus : ℕ → ℤ
 minus n = neg_ℤ (pos n)

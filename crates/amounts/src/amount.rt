@@ -1,9 +1,10 @@
 ghost use Rattle.amounts.specs.Making.{amount_in};
-ghost use Rattle.amounts.specs.Reading.{amount_at};
+ghost use Rattle.amounts.specs.Reading.{amount, amount_table};
 ghost use Rattle.amounts.specs.Values.{amount_of};
+ghost use Rattle.leaf.specs.Plans.{run};
 ghost use Rattle.std.specs.Prelude.{◌≡◌};
 
-use leaf::{Fault, Reader, WrittenBound};
+use leaf::{Fault, Reader, Refusal, WrittenBound};
 
 // An amount as written: a magnitude and a sign.
 #[derive(Clone, Copy)]
@@ -33,17 +34,23 @@ impl WrittenBound for WrittenAmount {
 
     ghost value_of = { amount_in };
 
-    ghost reading = { amount_at };
+    ghost reading = { λ negative. run amount_table (amount negative) };
 
     fn value(self) -> Option<i64> {
         WrittenAmount::value(self)
     }
 
-    fn read(reader: &mut Reader<'_>, negative: bool) -> Result<WrittenAmount, Fault> {
+    #[tactic(auto, unfolding(crate::specs::Reading::amount))]
+    fn read(reader: &mut Reader<'_>, negative: bool) -> Result<Option<i64>, Fault> {
+        let start = reader.at();
         let magnitude = reader.number()?;
-        Ok(WrittenAmount {
+        let written = WrittenAmount {
             magnitude,
             negative,
-        })
+        };
+        match WrittenAmount::value(written) {
+            None => Err(Fault::at(Refusal::OutOfRange, start)),
+            some => Ok(some),
+        }
     }
 }

@@ -74,7 +74,7 @@ impl Leaf<i64> for AmountLeaf {
     }
 
     // In each kind, since each says besides what its leaf means.
-    #[tactic(auto, using(crate::specs::Endings::leaf_from_end, crate::proofs::Grammar::read_means, crate::proofs::Grammar::amounts_stand))]
+    #[tactic(auto, using(crate::specs::Read::leaf_from_end, crate::proofs::Grammar::read_means, crate::proofs::Grammar::amounts_stand))]
     fn read(sheet: &[u8], start: usize, place: &mut AmountLeaf) -> Result<usize, Fault>
         ensures reads { Fills (amounts.reading sheet.now start) place.old place.new result }
         ensures grammar { AmountsStand }

@@ -1,5 +1,7 @@
-ghost use Rattle.amounts.specs.Reading.{are_flags, both_lists, flags_at, fraction_at, head_at, leaf_at, list_at, lists_at, part_at};
+ghost use Rattle.amounts.specs.Reading.{amount, amount_layout, amount_table, are_flags, both_lists, divisor, flags, list, lists, part};
 ghost use Rattle.divisors.specs.Rows.{fractions};
+ghost use Rattle.leaf.specs.Layouts.{reading};
+ghost use Rattle.leaf.specs.Plans.{field, head, run};
 ghost use Rattle.leaf.specs.Reading.{Reads, ReadsAs};
 ghost use Rattle.std.specs.Prelude.{◌≡◌};
 
@@ -26,7 +28,7 @@ fn are_flags(flags: u8) -> bool
 
 // The flags byte: each kind has its own test of it.
 fn read_flags(reader: &mut Reader<'_>) -> Result<u8, Fault>
-    ensures { Reads flags_at reader.old reader.new result }
+    ensures { Reads (run amount_table (field flags)) reader.old reader.new result }
 {
     let start = reader.at();
     let flags = reader.byte()?;
@@ -38,7 +40,7 @@ fn read_flags(reader: &mut Reader<'_>) -> Result<u8, Fault>
 
 // The flags and the bounds.
 fn read_head(reader: &mut Reader<'_>) -> Result<Bounds<i64>, Fault>
-    ensures { Reads head_at reader.old reader.new result }
+    ensures { Reads (run amount_table (head flags amount)) reader.old reader.new result }
 {
     let flags = read_flags(reader)?;
     Bounds::read::<WrittenAmount>(reader, flags)
@@ -46,7 +48,7 @@ fn read_head(reader: &mut Reader<'_>) -> Result<Bounds<i64>, Fault>
 
 // A numerator or denominator, from 1 to 2^63 - 1.
 fn read_part(reader: &mut Reader<'_>) -> Result<u64, Fault>
-    ensures { Reads part_at reader.old reader.new result }
+    ensures { Reads (run amount_table (field part)) reader.old reader.new result }
 {
     let start = reader.at();
     let n = reader.number()?;
@@ -57,7 +59,7 @@ fn read_part(reader: &mut Reader<'_>) -> Result<u64, Fault>
 }
 
 fn read_fraction(reader: &mut Reader<'_>) -> Result<Fraction, Fault>
-    ensures { Reads fraction_at reader.old reader.new result }
+    ensures { Reads (run amount_table divisor) reader.old reader.new result }
 {
     let p = read_part(reader)?;
     let q = read_part(reader)?;
@@ -65,9 +67,9 @@ fn read_fraction(reader: &mut Reader<'_>) -> Result<Fraction, Fault>
 }
 
 // A count and as many divisors.
-#[tactic(auto, unfolding(crate::specs::Reading::list_at))]
+#[tactic(auto, unfolding(crate::specs::Reading::list))]
 fn read_list(reader: &mut Reader<'_>) -> Result<Row, Fault>
-    ensures { ReadsAs fractions list_at reader.old reader.new result }
+    ensures { ReadsAs fractions (run amount_table list) reader.old reader.new result }
 {
     let start = reader.at();
     let count = reader.number()?;
@@ -86,7 +88,7 @@ fn read_list(reader: &mut Reader<'_>) -> Result<Row, Fault>
 
 // The required divisors, then the barred ones.
 fn read_lists(reader: &mut Reader<'_>) -> Result<(Row, Row), Fault>
-    ensures { ReadsAs both_lists lists_at reader.old reader.new result }
+    ensures { ReadsAs both_lists (run amount_table lists) reader.old reader.new result }
 {
     let required = read_list(reader)?;
     let barred = read_list(reader)?;
@@ -95,7 +97,7 @@ fn read_lists(reader: &mut Reader<'_>) -> Result<(Row, Row), Fault>
 
 // The leaf whose flags stand here.
 pub(crate) fn read_leaf(reader: &mut Reader<'_>) -> Result<AmountLeaf, Fault>
-    ensures { Reads leaf_at reader.old reader.new result }
+    ensures { Reads (reading amount_layout) reader.old reader.new result }
 {
     let start = reader.at();
     let bounds = read_head(reader)?;

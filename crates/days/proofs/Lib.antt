@@ -1,6 +1,5 @@
 pub mod Texts
 pub mod Means
-pub mod Fields
 pub mod Grammar
 pub mod Making
 pub mod Works

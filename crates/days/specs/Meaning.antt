@@ -11,8 +11,7 @@ use Rattle.days.specs.Calendar.{is_day_number, weekday}
 use Rattle.days.specs.Days.{days}
 use Rattle.leaf.specs.Windows.{written}
 use Rattle.days.specs.Making.{numbered}
-use Rattle.days.specs.Reading.{leaf_at}
-use Rattle.days.specs.Grammar.{Written, day_layout}
+use Rattle.days.specs.Reading.{Written, day_layout, leaf_at}
 
 -- d is a day, no earlier than the minimum and no later than the maximum where they are there, and its weekday is in the set
 pub record Meant (low high : Option ℕ) (set d : ℕ) : Type 0 where

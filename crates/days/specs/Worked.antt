@@ -3,10 +3,9 @@ use Rattle.std.specs.Prelude.{◌≡◌, ℕ, [], ◌∷◌, Some, None, Ok, Err
 use Rattle.faults.specs.Faults.{refused, at_byte, unplaced}
 use Rattle.leaf.specs.Layouts.{bytes_of}
 use Rattle.days.specs.declared.calendar.Date.{Date}
-use Rattle.days.specs.Grammar.{day_layout}
 use Rattle.days.specs.Leaves.{leaf_of}
 use Rattle.days.specs.Making.{made_of}
-use Rattle.days.specs.Reading.{leaf_at}
+use Rattle.days.specs.Reading.{day_layout, leaf_at}
 
 abbrev pub date : ℕ → ℕ → ℕ → Date
 date y m d = record { year = y; month = m; day = d }

@@ -1,4 +1,6 @@
-ghost use Rattle.days.specs.Reading.{flags_at, leaf_at, set_at};
+ghost use Rattle.days.specs.Reading.{date, day_layout, day_table, flags, weekdays};
+ghost use Rattle.leaf.specs.Layouts.{reading};
+ghost use Rattle.leaf.specs.Plans.{field, head, run};
 ghost use Rattle.leaf.specs.Reading.{Reads};
 
 use crate::calendar::Date;
@@ -11,7 +13,7 @@ const FLAGS: u8 = 4;
 
 // The flags byte: each kind has its own test of it.
 fn read_flags(reader: &mut Reader<'_>) -> Result<u8, Fault>
-    ensures { Reads flags_at reader.old reader.new result }
+    ensures { Reads (run day_table (field flags)) reader.old reader.new result }
 {
     let start = reader.at();
     let flags = reader.byte()?;
@@ -21,9 +23,17 @@ fn read_flags(reader: &mut Reader<'_>) -> Result<u8, Fault>
     Ok(flags)
 }
 
+// The flags and the bounds.
+fn read_head(reader: &mut Reader<'_>) -> Result<Bounds<u32>, Fault>
+    ensures { Reads (run day_table (head flags date)) reader.old reader.new result }
+{
+    let flags = read_flags(reader)?;
+    Bounds::read::<Date>(reader, flags)
+}
+
 // The weekday set.
 fn read_weekdays(reader: &mut Reader<'_>) -> Result<u8, Fault>
-    ensures { Reads set_at reader.old reader.new result }
+    ensures { Reads (run day_table (field weekdays)) reader.old reader.new result }
 {
     let start = reader.at();
     let set = reader.number()?;
@@ -35,11 +45,10 @@ fn read_weekdays(reader: &mut Reader<'_>) -> Result<u8, Fault>
 
 // The leaf whose flags stand here.
 pub(crate) fn read_leaf(reader: &mut Reader<'_>) -> Result<DayLeaf, Fault>
-    ensures { Reads leaf_at reader.old reader.new result }
+    ensures { Reads (reading day_layout) reader.old reader.new result }
 {
     let start = reader.at();
-    let flags = read_flags(reader)?;
-    let bounds = Bounds::read::<Date>(reader, flags)?;
+    let bounds = read_head(reader)?;
     let weekdays = read_weekdays(reader)?;
     if !bounds.is_window() {
         return Err(Fault::at(Refusal::MinAboveMax, start));

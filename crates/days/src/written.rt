@@ -1,8 +1,9 @@
 ghost use Rattle.days.specs.Making.{numbered};
-ghost use Rattle.days.specs.Reading.{signed_date_at};
+ghost use Rattle.days.specs.Reading.{date, day_table};
+ghost use Rattle.leaf.specs.Plans.{run};
 
 use crate::calendar::{Date, day_number};
-use leaf::{Fault, Reader, WrittenBound};
+use leaf::{Fault, Reader, Refusal, WrittenBound};
 
 // A bound of days is written as its date.
 impl WrittenBound for Date {
@@ -10,16 +11,20 @@ impl WrittenBound for Date {
 
     ghost value_of = { numbered };
 
-    ghost reading = { signed_date_at };
+    ghost reading = { λ negative. run day_table (date negative) };
 
     fn value(self) -> Option<u32> {
         day_number(self.year, self.month, self.day)
     }
 
-    fn read(reader: &mut Reader<'_>, _negative: bool) -> Result<Date, Fault> {
+    fn read(reader: &mut Reader<'_>, _negative: bool) -> Result<Option<u32>, Fault> {
+        let start = reader.at();
         let year = reader.number()?;
         let month = reader.number()?;
         let day = reader.number()?;
-        Ok(Date { year, month, day })
+        match day_number(year, month, day) {
+            None => Err(Fault::at(Refusal::OutOfRange, start)),
+            some => Ok(some),
+        }
     }
 }

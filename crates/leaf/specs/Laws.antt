@@ -1,12 +1,14 @@
--- What the laws of a kind rest on: windows, chains of readings, the numbers and the fields of a sheet.
+-- What the laws of a kind rest on: windows, chains of readings, the numbers, the fields and the plans of a sheet.
 pub mod Hulls
 pub mod Orders
 pub mod Deciding
 pub mod Made
 pub mod Chains
 pub mod Starts
-pub mod Ends
 pub mod Writing
 pub mod Encodes
 pub mod Rows
+pub mod Runs
+pub mod Fielded
+pub mod Parts
 pub mod Judging

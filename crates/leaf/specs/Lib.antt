@@ -4,6 +4,7 @@ pub mod Kind
 pub mod Laws
 pub mod Reading
 pub mod Fields
+pub mod Plans
 pub mod Layouts
 pub mod Windows
 pub mod Tests

@@ -1,7 +1,7 @@
 -- Windows of values as written, and as they stand on a sheet behind their flags.
-use Rattle.std.specs.Prelude.{ℕ, Bool, true, false, cond, List, Some, None, Ok, Err, Option, Result}
+use Rattle.std.specs.Prelude.{ℕ, Bool, cond, List, Some, None, Ok, Err, Option, Result}
 use Rattle.leaf.specs.declared.bounds.Bounds.{Bounds}
-use Rattle.faults.specs.Faults.{Answer, Refused, found, refused, next, then, at_byte, unplaced}
+use Rattle.faults.specs.Faults.{Answer, Refused, found, next, then, unplaced}
 use Rattle.leaf.specs.Kind.{higher_of, is_window_of, lower_of}
 use Rattle.leaf.specs.Numbers.{has_bit}
 
@@ -14,10 +14,6 @@ module _ {V : Type 0} where
   abbrev pub valued : Option V → Result (Option V) Refused
   valued None = Err (unplaced 7)
   valued (Some v) = Ok (Some v)
-
-  abbrev pub value_at : ℕ → ℕ → Option V → Answer (Option V)
-  value_at at e None = refused (at_byte 7 at)
-  value_at at e (Some v) = found (Some v) e
 
 module _ {W V : Type 0} (value : W → Option V) where
   -- what a bound as written stands for
@@ -34,12 +30,11 @@ module _ {W V : Type 0} (value : W → Option V) where
   abbrev pub window_of : (V → V → Bool) → Option W → Option W → Result (Bounds V) Refused
   window_of le low high = then (bound low) (λ l. then (bound high) (λ h. cond (is_window_of le l h) (Ok (record { minimum = l; maximum = h })) (Err (unplaced 8))))
 
-  module _ (reading : Bool → List ℕ → ℕ → Answer W) where
-    -- a bound that is present is read under its sign
-    abbrev pub bound_at : Bool → Bool → List ℕ → ℕ → Answer (Option V)
-    bound_at false negative s at = found None at
-    bound_at true negative s at = next (reading negative s at) (λ w e. value_at at e (value w))
+-- a bound as it is read under its sign
+module _ {V : Type 0} (reading : Bool → List ℕ → ℕ → Answer (Option V)) where
+  abbrev pub bound_at : Bool → Bool → List ℕ → ℕ → Answer (Option V)
+  bound_at present negative s at = cond present (reading negative s at) (found None at)
 
-    -- flags: bit 0 minimum present, bit 1 maximum present, bit 2 minimum negative, bit 3 maximum negative; the minimum comes first
-    abbrev pub bounds_at : ℕ → List ℕ → ℕ → Answer (Bounds V)
-    bounds_at f s at = next (bound_at (has_bit f 0) (has_bit f 2) s at) (λ low e. next (bound_at (has_bit f 1) (has_bit f 3) s e) (λ high g. found (record { minimum = low; maximum = high }) g))
+  -- flags: bit 0 minimum present, bit 1 maximum present, bit 2 minimum negative, bit 3 maximum negative; the minimum comes first
+  abbrev pub bounds_at : ℕ → List ℕ → ℕ → Answer (Bounds V)
+  bounds_at f s at = next (bound_at (has_bit f 0) (has_bit f 2) s at) (λ low e. next (bound_at (has_bit f 1) (has_bit f 3) s e) (λ high g. found (record { minimum = low; maximum = high }) g))

@@ -16,14 +16,14 @@ pub trait WrittenBound: Copy {
 
     ghost value_of: { Self → Option Self.Value };
 
-    ghost reading: { Bool → List ℕ → ℕ → Answer Self };
+    ghost reading: { Bool → List ℕ → ℕ → Answer (Option Self.Value) };
 
     // The value written, if it is one.
     fn value(self) -> Option<Self::Value>
         ensures { result ≡ value_of self };
 
-    // The bound that starts here, under the sign that the flags give it.
-    fn read(reader: &mut Reader<'_>, negative: bool) -> Result<Self, Fault>
+    // The value of the bound that starts here, under the sign that the flags give it; refused at its first byte where it is none.
+    fn read(reader: &mut Reader<'_>, negative: bool) -> Result<Option<Self::Value>, Fault>
         ensures { Reads (reading negative) reader.old reader.new result };
 }
 
@@ -36,22 +36,18 @@ fn bound_of<W: WrittenBound>(written: Option<W>) -> Result<Option<W::Value>, Fau
         .transpose()
 }
 
-// A bound that is present, refused at its first byte where it is no value.
+// A bound, if it is present.
 fn read_bound<W: WrittenBound>(
     reader: &mut Reader<'_>,
     present: bool,
     negative: bool,
 ) -> Result<Option<W::Value>, Fault>
-    ensures { Reads (bound_at W.value_of W.reading present negative) reader.old reader.new result }
+    ensures { Reads (bound_at W.reading present negative) reader.old reader.new result }
 {
-    if !present {
-        return Ok(None);
-    }
-    let start = reader.at();
-    let written = W::read(reader, negative)?;
-    match written.value() {
-        None => Err(Fault::at(Refusal::OutOfRange, start)),
-        some => Ok(some),
+    if present {
+        W::read(reader, negative)
+    } else {
+        Ok(None)
     }
 }
 
@@ -82,7 +78,7 @@ impl<V: Copy + PartialOrd> Bounds<V> {
         reader: &mut Reader<'_>,
         flags: u8,
     ) -> Result<Bounds<V>, Fault>
-        ensures { Reads (bounds_at W.value_of W.reading flags) reader.old reader.new result }
+        ensures { Reads (bounds_at W.reading flags) reader.old reader.new result }
     {
         let minimum = read_bound::<W>(reader, has_flag(flags, 0), has_flag(flags, 2))?;
         let maximum = read_bound::<W>(reader, has_flag(flags, 1), has_flag(flags, 3))?;

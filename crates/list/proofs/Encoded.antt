@@ -6,16 +6,16 @@ use Rattle.std.proofs.lemmas.List.{append_assoc, length-append}
 use Rattle.leaf.specs.Encoding.{Bytes}
 use Rattle.faults.specs.Faults.{at_byte}
 use Rattle.leaf.specs.Kind.{Kind, Laws, WellRead}
-use Rattle.leaf.specs.Layouts.{Layout, LeafGrammar, bytes_of}
+use Rattle.leaf.specs.Layouts.{Layout, LeafGrammar, bytes_of, leaf_of}
 use Rattle.list.specs.Lists.{All}
 use Rattle.list.specs.Sheets.{Outcome, sheet_outcome}
 use Rattle.list.specs.Outcomes.{Begins, Bytes as Chunk, Comes, Taken, nothing, one, too_long, empty, other_kind, whole, no_leaf, full, inserted_all, joined_bytes, leaves_in}
 use Rattle.list.specs.Encoded.{EncodedSheets, Sound, encoded_outcome, leaves_bytes, sheet_bytes}
 use Rattle.list.proofs.Outcomes.{comes, sheet_written}
 
-module _ {V L Role W : Type 0} (k : Kind V L) (laws : Laws k) (y : Layout Role W L) (grammar : LeafGrammar y k.reading) where
+module _ {V L Role W M : Type 0} (k : Kind V L) (laws : Laws k) (y : Layout Role W M L) (grammar : LeafGrammar y k.reading) where
   abbrev chunk : (w : W) → Sound k y w → Chunk k
-  chunk w s = record { bytes = bytes_of y w; leaf = y.leaf w; read = λ front rest. grammar.read_back w front rest s.fits s.window }
+  chunk w s = record { bytes = bytes_of y w; leaf = leaf_of y w; read = λ front rest. grammar.read_back w front rest s.fits s.window }
 
   abbrev chunks : (ws : List W) → All (Sound k y) ws → List (Chunk k)
   chunks [] h = []
@@ -34,10 +34,10 @@ module _ {V L Role W : Type 0} (k : Kind V L) (laws : Laws k) (y : Layout Role W
   taken_bytes (suc m) [] h = refl
   taken_bytes (suc m) (w ∷ ws) h = ap (λ (xs : List ℕ). bytes_of y w ++ xs) (taken_bytes m ws h.1)
 
-  taken_leaves : (m : ℕ) (ws : List W) (h : All (Sound k y) ws) → leaves_in k (take m (chunks ws h)) ≡ map y.leaf (take m ws)
+  taken_leaves : (m : ℕ) (ws : List W) (h : All (Sound k y) ws) → leaves_in k (take m (chunks ws h)) ≡ map (leaf_of y) (take m ws)
   taken_leaves zero ws h = refl
   taken_leaves (suc m) [] h = refl
-  taken_leaves (suc m) (w ∷ ws) h = ap (λ (xs : List L). y.leaf w ∷ xs) (taken_leaves m ws h.1)
+  taken_leaves (suc m) (w ∷ ws) h = ap (λ (xs : List L). leaf_of y w ∷ xs) (taken_leaves m ws h.1)
 
   written : (n b : ℕ) (ws : List W) (h : List L) → k.kind_byte b ≡ true → All (Sound k y) ws → length (sheet_bytes k y b ws) ≤ 32768 → sheet_outcome k n (sheet_bytes k y b ws) h ≡ encoded_outcome k y n ws h
   written n b ws h t s l =
@@ -59,7 +59,7 @@ module _ {V L Role W : Type 0} (k : Kind V L) (laws : Laws k) (y : Layout Role W
   pub record Stretch (bytes : List ℕ) (at : ℕ) (xs : List L) (end : ℕ) : Type 0 where
     pub leaves : List W
     pub sound : All (Sound k y) leaves
-    pub leaves_are : xs ≡ map y.leaf leaves
+    pub leaves_are : xs ≡ map (leaf_of y) leaves
     pub bytes_are : drop at bytes ≡ leaves_bytes k y leaves ++ drop end bytes
     pub ends : end ≡ at + length (leaves_bytes k y leaves)
 
@@ -85,7 +85,7 @@ module _ {V L Role W : Type 0} (k : Kind V L) (laws : Laws k) (y : Layout Role W
   take_front (x ∷ xs) ys = ap (λ (zs : List ℕ). x ∷ zs) (take_front xs ys)
 
   abbrev ReadAs : (bytes : List ℕ) → ℕ → Outcome L → Type 0
-  ReadAs bytes kind o = (ws : List W) × All (Sound k y) ws × (o.taken ≡ map y.leaf ws) × (take o.start bytes ≡ sheet_bytes k y kind ws)
+  ReadAs bytes kind o = (ws : List W) × All (Sound k y) ws × (o.taken ≡ map (leaf_of y) ws) × (take o.start bytes ≡ sheet_bytes k y kind ws)
 
   of_stretch : (n : ℕ) (bytes : List ℕ) (g : Begins k n bytes) (o : Outcome L) → Stretch bytes 1 o.taken o.start → ReadAs bytes g.kind o
   of_stretch n bytes g o v =

@@ -4,15 +4,15 @@ use Rattle.std.proofs.Common.{sym, ap, subst, ◌∙◌, arith, inl, inr, ⊎_el
 use Rattle.std.proofs.lemmas.Bool.{true≢false}
 use Rattle.leaf.specs.Encoding.{Bytes}
 use Rattle.faults.specs.Faults.{Answer, Refused, found, refused, at_byte}
-use Rattle.leaf.specs.Fields.{BadNumber, EndsEarly, Unfit}
+use Rattle.leaf.specs.Plans.{BadNumber, EndsEarly, Unfit}
 use Rattle.leaf.specs.Kind.{Kind, Laws}
-use Rattle.leaf.specs.Layouts.{Layout, LeafGrammar, LeafJudged, LeafStands, OneAnswer, fields_due, is_of_field}
+use Rattle.leaf.specs.Layouts.{Layout, LeafGrammar, LeafJudged, LeafStands, OneAnswer, is_of_field, leaf_of, is_window_of}
 use Rattle.list.specs.Sheets.{Outcome, is_full, sheet_outcome}
 use Rattle.list.specs.Outcomes.{Begins, Comes, Taken, too_long, empty, other_kind, whole, no_leaf, full}
 use Rattle.list.specs.Stops.{AllStops, LeafDue, OtherKind, Stops}
 use Rattle.list.proofs.Outcomes.{came, comes}
 
-module _ {V L Role W : Type 0} (k : Kind V L) (laws : Laws k) (y : Layout Role W L) (grammar : LeafGrammar y k.reading) (n : ℕ) (bytes : List ℕ) (h : List L) (b : Bytes bytes) where
+module _ {V L Role W M : Type 0} (k : Kind V L) (laws : Laws k) (y : Layout Role W M L) (grammar : LeafGrammar y k.reading) (n : ℕ) (bytes : List ℕ) (h : List L) (b : Bytes bytes) where
   abbrev Due : ℕ → Type 0
   Due = LeafDue k y n bytes h
 
@@ -85,45 +85,45 @@ module _ {V L Role W : Type 0} (k : Kind V L) (laws : Laws k) (y : Layout Role W
       by (inr (inr (inr e))) = absurd (omega (arith, e))
   one_by (inr (inr (inr (inr (at, d, e, u, x))))) = absurd (let z = number_of e in omega (arith, z))
 
-  two_by : Stopped (at_byte 2 (length bytes)) → (bytes ≡ []) ⊎ ((at : ℕ) × Due at × EndsEarly y.fields bytes (fields_due y bytes at) at)
+  two_by : Stopped (at_byte 2 (length bytes)) → (bytes ≡ []) ⊎ ((at : ℕ) × Due at × EndsEarly y.table bytes y.plan at)
   two_by (inl (e, l)) = absurd (let z = number_of e in omega (arith, z))
   two_by (inr (inl (e, q))) = inl q
   two_by (inr (inr (inl (e, q)))) = absurd (let z = number_of e in omega (arith, z))
   two_by (inr (inr (inr (inl (at, d, q))))) = inr (at, d, (judged at).two.0 q)
   two_by (inr (inr (inr (inr (at, d, e, u, x))))) = absurd (let z = number_of e in omega (arith, z))
 
-  three_by : (p : ℕ) → Stopped (at_byte 3 p) → (at : ℕ) × Due at × BadNumber y.fields bytes (fields_due y bytes at) at p
+  three_by : (p : ℕ) → Stopped (at_byte 3 p) → (at : ℕ) × Due at × BadNumber y.table bytes y.plan at p
   three_by p (inl (e, l)) = absurd (let z = number_of e in omega (arith, z))
   three_by p (inr (inl (e, q))) = absurd (let z = number_of e in omega (arith, z))
   three_by p (inr (inr (inl (e, q)))) = absurd (let z = number_of e in omega (arith, z))
   three_by p (inr (inr (inr (inl (at, d, q))))) = (at, d, ((judged at).three p).0 q)
   three_by p (inr (inr (inr (inr (at, d, e, u, x))))) = absurd (let z = number_of e in omega (arith, z))
 
-  four_by : (p : ℕ) → Stopped (at_byte 4 p) → ((p ≡ 0) × OtherKind k y n bytes h) ⊎ ((at : ℕ) × Due at × Unfit y.fields bytes (fields_due y bytes at) at 4 p)
+  four_by : (p : ℕ) → Stopped (at_byte 4 p) → ((p ≡ 0) × OtherKind k y n bytes h) ⊎ ((at : ℕ) × Due at × Unfit y.table bytes y.plan at 4 p)
   four_by p (inl (e, l)) = absurd (let z = number_of e in omega (arith, z))
   four_by p (inr (inl (e, q))) = absurd (let z = number_of e in omega (arith, z))
   four_by p (inr (inr (inl (e, q)))) = inl (byte_of e, q)
   four_by p (inr (inr (inr (inl (at, d, q))))) = inr (at, d, ((judged at).unfit 4 p refl).0 q)
   four_by p (inr (inr (inr (inr (at, d, e, u, x))))) = absurd (let z = number_of e in omega (arith, z))
 
-  unfit_by : (m p : ℕ) → is_of_field m ≡ true → (m ≡ 4 → ⊥) → Stopped (at_byte m p) → (at : ℕ) × Due at × Unfit y.fields bytes (fields_due y bytes at) at m p
+  unfit_by : (m p : ℕ) → is_of_field m ≡ true → (m ≡ 4 → ⊥) → Stopped (at_byte m p) → (at : ℕ) × Due at × Unfit y.table bytes y.plan at m p
   unfit_by m p f g (inl (e, l)) = absurd (true≢false (sym (subst (λ (i : ℕ). is_of_field i ≡ true) (number_of e) f)))
   unfit_by m p f g (inr (inl (e, q))) = absurd (true≢false (sym (subst (λ (i : ℕ). is_of_field i ≡ true) (number_of e) f)))
   unfit_by m p f g (inr (inr (inl (e, q)))) = absurd (g (number_of e))
   unfit_by m p f g (inr (inr (inr (inl (at, d, q))))) = (at, d, ((judged at).unfit m p f).0 q)
   unfit_by m p f g (inr (inr (inr (inr (at, d, e, u, x))))) = absurd (true≢false (sym (subst (λ (i : ℕ). is_of_field i ≡ true) (number_of e) f)))
 
-  eight_by : (p : ℕ) → Stopped (at_byte 8 p) → Due p × ((w : W) × (e : ℕ) × LeafStands y bytes p w e × (y.is_window w ≡ false))
+  eight_by : (p : ℕ) → Stopped (at_byte 8 p) → Due p × ((w : W) × (e : ℕ) × LeafStands y bytes p w e × (is_window_of y w ≡ false))
   eight_by p (inl (e, l)) = absurd (let z = number_of e in omega (arith, z))
   eight_by p (inr (inl (e, q))) = absurd (let z = number_of e in omega (arith, z))
   eight_by p (inr (inr (inl (e, q)))) = absurd (let z = number_of e in omega (arith, z))
   eight_by p (inr (inr (inr (inl (at, d, q))))) =
       let r = ((judged at).eight p).0 q in
-      (subst Due (sym r.0) d, subst (λ (i : ℕ). (w : W) × (e : ℕ) × LeafStands y bytes i w e × (y.is_window w ≡ false)) (sym r.0) r.1)
+      (subst Due (sym r.0) d, subst (λ (i : ℕ). (w : W) × (e : ℕ) × LeafStands y bytes i w e × (is_window_of y w ≡ false)) (sym r.0) r.1)
   eight_by p (inr (inr (inr (inr (at, d, e, u, x))))) = absurd (let z = number_of e in omega (arith, z))
 
   abbrev Full : ℕ → Type 0
-  Full p = (d : Due p) × (is_full n d.held ≡ true) × ((w : W) × (e : ℕ) × LeafStands y bytes p w e × (y.is_window w ≡ true))
+  Full p = (d : Due p) × (is_full n d.held ≡ true) × ((w : W) × (e : ℕ) × LeafStands y bytes p w e × (is_window_of y w ≡ true))
 
   ten_by : (p : ℕ) → Stopped (at_byte 10 p) → Full p
   ten_by p (inl (e, l)) = absurd (let z = number_of e in omega (arith, z))
@@ -158,7 +158,7 @@ module _ {V L Role W : Type 0} (k : Kind V L) (laws : Laws k) (y : Layout Role W
   other_is q = stop_is _ (other_kind q.fits q.bytes_are q.other)
 
   full_is : (p : ℕ) → Full p → (sheet_outcome k n bytes h).stop ≡ Some (at_byte 10 p)
-  full_is p (d, u, (w, e, s, t)) = stop_is _ (full d.begins d.before d.on (((judged p).read (y.leaf w) e).1 (w, s, t, refl)) u)
+  full_is p (d, u, (w, e, s, t)) = stop_is _ (full d.begins d.before d.on (((judged p).read (leaf_of y w) e).1 (w, s, t, refl)) u)
 
   pub stops : Stops k y n bytes h
   stops = record {
@@ -178,5 +178,5 @@ module _ {V L Role W : Type 0} (k : Kind V L) (laws : Laws k) (y : Layout Role W
     none = ((λ e. none_by (sheet_outcome k n bytes h) (comes k laws n bytes h) e), (λ (g, (xs, h', end, t, z)). stop_is _ (whole g t z)));
   }
 
-pub all_stops : {V L Role W : Type 0} (k : Kind V L) → Laws k → (y : Layout Role W L) → LeafGrammar y k.reading → AllStops k y
+pub all_stops : {V L Role W M : Type 0} (k : Kind V L) → Laws k → (y : Layout Role W M L) → LeafGrammar y k.reading → AllStops k y
 all_stops k laws y grammar n bytes h b = stops k laws y grammar n bytes h b

@@ -3,16 +3,16 @@ use Rattle.std.specs.Prelude.{◌≡◌, ℕ, ◌+◌, ◌-◌, ◌≤◌, true,
 use Rattle.leaf.specs.Encoding.{Bytes}
 use Rattle.faults.specs.Faults.{at_byte}
 use Rattle.leaf.specs.Kind.{Kind}
-use Rattle.leaf.specs.Layouts.{Layout, bytes_of}
+use Rattle.leaf.specs.Layouts.{Layout, bytes_of, leaf_of, is_window_of}
 use Rattle.list.specs.Lists.{All}
 use Rattle.list.specs.Sheets.{Outcome, sheet_outcome}
 use Rattle.list.specs.Outcomes.{Begins, inserted_all}
 
-module _ {V L Role W : Type 0} (k : Kind V L) (y : Layout Role W L) where
+module _ {V L Role W M : Type 0} (k : Kind V L) (y : Layout Role W M L) where
   -- a leaf as written that its reader takes: its fields are in order, and its minimum is at most its maximum
   pub record Sound (w : W) : Type 0 where
     pub fits : y.fits w ≡ true
-    pub window : y.is_window w ≡ true
+    pub window : is_window_of y w ≡ true
 
   -- the bytes of leaves, one after the other, and of a sheet
   abbrev pub leaves_bytes : List W → List ℕ
@@ -26,7 +26,7 @@ module _ {V L Role W : Type 0} (k : Kind V L) (y : Layout Role W L) where
   abbrev pub encoded_outcome : ℕ → List W → List L → Outcome L
   encoded_outcome n ws h =
       let room = n - length h in
-      let taken = map y.leaf (take room ws) in
+      let taken = map (leaf_of y) (take room ws) in
       let start = 1 + length (leaves_bytes (take room ws)) in
       record { taken = taken; held = inserted_all k h taken; start = start; stop = cond (nat_le (length ws) room) None (Some (at_byte 10 start)) }
 
@@ -35,6 +35,6 @@ module _ {V L Role W : Type 0} (k : Kind V L) (y : Layout Role W L) where
     pub written : (n b : ℕ) (ws : List W) (h : List L) → k.kind_byte b ≡ true → All Sound ws → length (sheet_bytes b ws) ≤ 32768 → sheet_outcome k n (sheet_bytes b ws) h ≡ encoded_outcome n ws h
     -- of a sheet of the kind, what is accepted stands up to the start, in the bytes of those leaves
     pub read : (n : ℕ) (bytes : List ℕ) (h : List L) → Bytes bytes → (g : Begins k n bytes) →
-        (ws : List W) × All Sound ws × ((sheet_outcome k n bytes h).taken ≡ map y.leaf ws) × (take (sheet_outcome k n bytes h).start bytes ≡ sheet_bytes g.kind ws)
+        (ws : List W) × All Sound ws × ((sheet_outcome k n bytes h).taken ≡ map (leaf_of y) ws) × (take (sheet_outcome k n bytes h).start bytes ≡ sheet_bytes g.kind ws)
     -- and they are the bytes of no other leaves
     pub alone : (ws vs : List W) → All Sound ws → All Sound vs → leaves_bytes ws ≡ leaves_bytes vs → ws ≡ vs

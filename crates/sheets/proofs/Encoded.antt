@@ -2,11 +2,11 @@
 use Rattle.list.proofs.Encoded.{encoded_sheets}
 use Rattle.list.proofs.Stops.{all_stops}
 use Rattle.amounts.specs.Amounts.{amounts}
-use Rattle.amounts.specs.Grammar.{amount_layout}
+use Rattle.amounts.specs.Reading.{amount_layout}
 use Rattle.amounts.specs.Shows.{amounts_laws}
 use Rattle.amounts.proofs.Grammar.{leaves as amount_grammar}
 use Rattle.days.specs.Days.{days}
-use Rattle.days.specs.Grammar.{day_layout}
+use Rattle.days.specs.Reading.{day_layout}
 use Rattle.days.specs.Shows.{days_laws}
 use Rattle.days.proofs.Grammar.{leaves as day_grammar}
 use Rattle.sheets.specs.Encoded.{SheetsInBytes}

@@ -2,9 +2,9 @@
 use Rattle.list.specs.Encoded.{EncodedSheets}
 use Rattle.list.specs.Stops.{AllStops}
 use Rattle.amounts.specs.Amounts.{amounts}
-use Rattle.amounts.specs.Grammar.{amount_layout}
+use Rattle.amounts.specs.Reading.{amount_layout}
 use Rattle.days.specs.Days.{days}
-use Rattle.days.specs.Grammar.{day_layout}
+use Rattle.days.specs.Reading.{day_layout}
 
 pub record BothEncoded : Type 0 where
   -- the bytes of leaves are accepted as far as the table has places, what is accepted stands there in the bytes of its leaves, and no others have them

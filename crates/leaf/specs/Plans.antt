@@ -1,0 +1,125 @@
+-- How a leaf stands on a sheet, stated once: a table of fields, and a plan, which says in what order they are due and what they make.
+use Rattle.std.specs.Prelude.{◌≡◌, ℕ, zero, suc, ◌+◌, Bool, true, false, cond, not, ◌&&◌, ◌⊎◌, List, [], ◌∷◌, ◌++◌, drop, Some, None, Option, is_some}
+use Rattle.faults.specs.Faults.{Answer, found, refused, next, at_byte}
+use Rattle.leaf.specs.declared.bounds.Bounds.{Bounds}
+use Rattle.leaf.specs.Numbers.{has_bit}
+use Rattle.leaf.specs.Encoding.{Written}
+use Rattle.leaf.specs.Fields.{Shape, Stands, Ends, Misspelt, shape_at}
+
+pub record Table (Role : Type 0) : Type 0 where
+  pub shape : Role → Shape
+  -- whether that may stand in the field
+  pub fits : Role → ℕ → Bool
+  -- the refusal of what does not fit, and the byte that it names, from the field's place
+  pub refusal : Role → ℕ
+  pub named : Role → ℕ → ℕ
+
+-- nothing more is due; a field, and then what its place and its number bring; one of two; a part, and then what that made brings
+pub data Plan (Role : Type 0) : Type 0 → Type 1 where
+  done : {A : Type 0} → A → Plan Role A
+  ask : {A : Type 0} → Role → (ℕ → ℕ → Plan Role A) → Plan Role A
+  either : {A : Type 0} → Bool → Plan Role A → Plan Role A → Plan Role A
+  then : {A B : Type 0} → Plan Role A → (A → Plan Role B) → Plan Role B
+
+-- a field alone
+abbrev pub field : {Role : Type 0} → Role → Plan Role ℕ
+field r = ask r (λ at n. done n)
+
+-- a part so many times
+abbrev pub repeat : {Role A : Type 0} → Plan Role A → ℕ → Plan Role (List A)
+repeat p zero = done []
+repeat p (suc k) = then p (λ x. then (repeat p k) (λ xs. done (x ∷ xs)))
+
+-- the numbers of all of a list, one after the other
+abbrev pub all_numbers : {W : Type 0} → (W → List ℕ) → List W → List ℕ
+all_numbers ns [] = []
+all_numbers ns (w ∷ ws) = ns w ++ all_numbers ns ws
+
+-- a part that may be absent
+abbrev pub optional : {Role A : Type 0} → Bool → Plan Role A → Plan Role (Option A)
+optional present p = either present (then p (λ x. done (Some x))) (done None)
+
+-- of what may be absent: its numbers, and whether it fits
+abbrev pub numbers_if : {W : Type 0} → (W → List ℕ) → Option W → List ℕ
+numbers_if ns None = []
+numbers_if ns (Some w) = ns w
+
+abbrev pub fits_if : {W : Type 0} → (W → Bool) → Option W → Bool
+fits_if f None = true
+fits_if f (Some w) = f w
+
+-- of what is there exactly if it is to be: whether it fits, and what it makes
+abbrev pub is_that : Bool → Bool → Bool
+is_that true b = b
+is_that false b = not b
+
+abbrev pub optional_fits : {W : Type 0} → Bool → (W → Bool) → Option W → Bool
+optional_fits present f o = is_that present (is_some o) && fits_if f o
+
+abbrev pub optional_made : {W A : Type 0} → (W → A) → Option W → Option A
+optional_made a None = None
+optional_made a (Some w) = Some (a w)
+
+-- the bounds that the flags name: bit 0 minimum present, bit 1 maximum present, bit 2 minimum negative, bit 3 maximum negative; the minimum comes first
+abbrev pub bounds : {Role V : Type 0} → (Bool → Plan Role (Option V)) → ℕ → Plan Role (Bounds V)
+bounds bound f =
+    then (either (has_bit f 0) (bound (has_bit f 2)) (done None)) (λ low. then (either (has_bit f 1) (bound (has_bit f 3)) (done None)) (λ high. done (record { minimum = low; maximum = high })))
+
+-- the flags, and the bounds that they name
+abbrev pub head : {Role V : Type 0} → Role → (Bool → Plan Role (Option V)) → Plan Role (Bounds V)
+head flags bound = then (field flags) (λ f. bounds bound f)
+
+module _ {Role : Type 0} (t : Table Role) where
+  -- reading: the first field that is not in order gives its refusal
+  abbrev pub run : {A : Type 0} → Plan Role A → List ℕ → ℕ → Answer A
+  run (done x) s at = found x at
+  run (ask r k) s at = next (shape_at (t.shape r) s at) (λ n e. cond (t.fits r n) (run (k at n) s e) (refused (at_byte (t.refusal r) (t.named r at))))
+  run (either b p q) s at = cond b (run p s at) (run q s at)
+  run (then p k) s at = next (run p s at) (λ x e. run (k x) s e)
+
+  module _ (s : List ℕ) where
+    -- n stands in the field r from a byte on, and may
+    pub record InOrder (r : Role) (at n size : ℕ) : Type 0 where
+      pub stands : Stands (t.shape r) (drop at s) n size
+      pub fits : t.fits r n ≡ true
+
+    -- all fields due from a byte on are in order, and make x, up to another byte
+    abbrev pub Makes : {A : Type 0} → Plan Role A → ℕ → A → ℕ → Type 0
+    Makes (done y) at x end = (y ≡ x) × (at ≡ end)
+    Makes (ask r k) at x end = (n : ℕ) × (size : ℕ) × InOrder r at n size × Makes (k at n) (at + size) x end
+    Makes (either b p q) at x end = (b ≡ true) × Makes p at x end ⊎ (b ≡ false) × Makes q at x end
+    Makes (then {A = A} p k) at x end = (y : A) × (mid : ℕ) × Makes p at y mid × Makes (k y) mid x end
+
+    -- all fields due from a byte on are in order up to the field q, which is due at the byte p
+    abbrev pub Reached : {A : Type 0} → Plan Role A → ℕ → Role → ℕ → Type 0
+    Reached (done y) at q p = ⊥
+    Reached (ask r k) at q p = (r ≡ q) × (at ≡ p) ⊎ ((n : ℕ) × (size : ℕ) × InOrder r at n size × Reached (k at n) (at + size) q p)
+    Reached (either b l r) at q p = (b ≡ true) × Reached l at q p ⊎ (b ≡ false) × Reached r at q p
+    Reached (then {A = A} l k) at q p = Reached l at q p ⊎ ((y : A) × (mid : ℕ) × Makes l at y mid × Reached (k y) mid q p)
+
+    module _ {A : Type 0} (plan : Plan Role A) (at : ℕ) where
+      -- the first field that is not in order: the sheet ends in it,
+      abbrev pub EndsEarly : Type 0
+      EndsEarly = (q : Role) × (p : ℕ) × Reached plan at q p × Ends (t.shape q) (drop p s)
+
+      -- what stands there is no number,
+      abbrev pub BadNumber : ℕ → Type 0
+      BadNumber p = (q : Role) × Reached plan at q p × Misspelt (t.shape q) (drop p s)
+
+      -- or what stands there does not fit
+      pub record Unfit (refusal named : ℕ) : Type 0 where
+        pub field : Role
+        pub place : ℕ
+        pub value : ℕ
+        pub size : ℕ
+        pub reached : Reached plan at field place
+        pub stands : Stands (t.shape field) (drop place s) value size
+        pub unfit : t.fits field value ≡ false
+        pub refusal_is : refusal ≡ t.refusal field
+        pub named_is : named ≡ t.named field place
+
+      -- all is in order up to the field q, which is due at p, and there the number n stands
+      pub record NumberDue (q : Role) (p n : ℕ) : Type 0 where
+        pub reached : Reached plan at q p
+        pub size : ℕ
+        pub stands : Written (drop p s) n size
