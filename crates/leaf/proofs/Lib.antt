@@ -1,2 +1,3 @@
 mod Steps
 pub mod Beginnings
+pub mod Fills

@@ -1,9 +1,10 @@
 -- What a kind of leaf means, and the laws that it shows. A leaf is a window of values with a rule.
-use Rattle.std.specs.Prelude.{◌≡◌, ℕ, ◌<◌, ◌≤◌, Bool, true, false, cond, not, ◌&&◌, ◌||◌, ◌⊎◌, List, length, Some, None, Option}
-use Rattle.faults.specs.Faults.{Answer, found, refused}
+use Rattle.std.specs.Prelude.{◌≡◌, ℕ, Bool, true, false, cond, not, ◌&&◌, ◌||◌, ◌⊎◌, List, [], ◌∷◌, Some, None, Option}
+use Rattle.faults.specs.Faults.{Answer}
+use Rattle.leaf.specs.Layouts.{Layout, LayoutLaws, is_written_window, leaf_under, written_leaf}
 
 -- The meaning of a kind: values of type V, leaves of type L. Every member answers for every leaf, lawful or not.
-pub record Kind (V L : Type 0) : Type 0 where
+pub record Kind (V L : Type 0) : Type 1 where
   -- whether it is a value of the kind: a machine number stands for every number in the logic
   pub is_value : V → Bool
   -- the order of the values, and the next one
@@ -24,8 +25,16 @@ pub record Kind (V L : Type 0) : Type 0 where
   pub join : L → L → L
   -- whether a sheet of this kind may begin with that byte
   pub kind_byte : ℕ → Bool
-  -- the leaf that starts at a byte of a sheet
-  pub reading : List ℕ → ℕ → Answer L
+  -- how its leaves stand on a sheet that begins with that byte: by the fields of a leaf, a leaf as written, and what its fields make
+  pub Role : Type 0
+  pub Written : Type 0
+  pub Made : Type 0
+  pub layout : ℕ → Layout Role Written Made L
+
+-- the first byte of a sheet; an empty sheet, which is read by no layout, has any
+abbrev pub first_of : List ℕ → ℕ
+first_of [] = 0
+first_of (b ∷ bs) = b
 
 -- the values and an end on either side
 pub data Ext (V : Type 0) : Type 0 where
@@ -118,10 +127,12 @@ module _ {V L : Type 0} (k : Kind V L) where
     pub minimum : Lower (k.minimum r) (k.minimum a) (k.minimum b)
     pub maximum : Higher (k.maximum r) (k.maximum a) (k.maximum b)
 
-  -- what is read is lawful and ends past its start and within the sheet
-  abbrev pub WellRead : List ℕ → ℕ → Answer L → Type 0
-  WellRead s i (found x e) = Lawful x × (i < e) × (e ≤ length s)
-  WellRead s i (refused f) = Unit {0}
+  -- the layout by which a sheet is read, and the leaf that stands at one of its bytes
+  abbrev pub layout_of : List ℕ → Layout k.Role k.Written k.Made L
+  layout_of s = k.layout (first_of s)
+
+  abbrev pub leaf_at : List ℕ → ℕ → Answer L
+  leaf_at s at = leaf_under (layout_of s) s at
 
   pub record Laws : Type 0 where
     -- a total order of values
@@ -154,5 +165,6 @@ module _ {V L : Type 0} (k : Kind V L) where
     pub covers_trans : (a b c : L) → Lawful a → Lawful b → Lawful c → k.rule_covers a b ≡ true → k.rule_covers b c ≡ true → k.rule_covers a c ≡ true
     pub covers_anti : (a b : L) → Lawful a → Lawful b → k.rule_covers a b ≡ true → k.rule_covers b a ≡ true → same_rule a b ≡ true
     pub covers_admits : (a b : L) (v : V) → Lawful a → Lawful b → k.rule_covers a b ≡ true → k.rule_admits b v ≡ true → k.rule_admits a v ≡ true
-    -- the reader
-    pub well_read : (s : List ℕ) (i : ℕ) → WellRead s i (k.reading s i)
+    -- each layout shows its laws, and makes lawful leaves
+    pub layouts : (b : ℕ) → LayoutLaws (k.layout b)
+    pub written_lawful : (b : ℕ) (w : k.Written) → (k.layout b).fits w ≡ true → is_written_window (k.layout b) w ≡ true → Lawful (written_leaf (k.layout b) w)

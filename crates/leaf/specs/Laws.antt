@@ -4,7 +4,7 @@ pub mod Orders
 pub mod Deciding
 pub mod Made
 pub mod Chains
-pub mod Starts
+pub mod Slices
 pub mod Writing
 pub mod Encodes
 pub mod Rows
@@ -12,3 +12,4 @@ pub mod Runs
 pub mod Fielded
 pub mod Parts
 pub mod Judging
+pub mod Starts

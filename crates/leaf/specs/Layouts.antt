@@ -1,20 +1,20 @@
--- A kind's layout: the one statement of how its leaves stand on a sheet, their reader, and on which condition each answer comes.
-use Rattle.std.specs.Prelude.{◌≡◌, ℕ, ◌+◌, Bool, true, false, cond, not, ◌&&◌, ◌↔◌, ◌⊎◌, List, [], ◌∷◌, ◌++◌, length, drop, ◌==◌, nat_le}
+-- A layout: the one statement of how leaves stand on a sheet, and on which condition each answer of their reader comes.
+use Rattle.std.specs.Prelude.{◌≡◌, ℕ, ◌+◌, ◌<◌, ◌^◌, Bool, true, false, cond, not, ◌&&◌, ◌↔◌, ◌⊎◌, List, [], ◌∷◌, ◌++◌, length, drop, ◌==◌, nat_le}
 use Rattle.faults.specs.Faults.{Answer, found, refused, next, at_byte}
-use Rattle.leaf.specs.Encoding.{Bytes, encode}
-use Rattle.leaf.specs.Plans.{Table, Plan, run, EndsEarly, BadNumber, Unfit}
+use Rattle.leaf.specs.Encoding.{Written as NumberWritten, encode}
+use Rattle.leaf.specs.Plans.{Table, Plan, made_at, Makes, EndsEarly, BadNumber, Unfit}
 
--- leaves L, made of M, which the fields make
-pub record Layout (Role W M L : Type 0) : Type 1 where
+-- leaves L, each made of what its fields make
+pub record Layout (Role Written Made L : Type 0) : Type 1 where
   pub table : Table Role
-  pub plan : Plan Role M
+  pub plan : Plan Role Made
   -- its minimum is at most its maximum
-  pub is_window : M → Bool
-  pub leaf : M → L
-  -- a leaf as written: what stands in its fields, whether all that may, what that makes
-  pub numbers : W → List ℕ
-  pub fits : W → Bool
-  pub made : W → M
+  pub is_window : Made → Bool
+  pub leaf : Made → L
+  -- a leaf as written: the numbers in its fields, whether all of them may stand there, what they make
+  pub numbers : Written → List ℕ
+  pub fits : Written → Bool
+  pub made : Written → Made
 
 -- the bytes of these numbers, one after the other
 abbrev pub spelled : List ℕ → List ℕ
@@ -26,27 +26,59 @@ abbrev pub spelled_leaf : List ℕ → List ℕ
 spelled_leaf [] = []
 spelled_leaf (f ∷ ns) = f ∷ spelled ns
 
+-- these numbers stand one after the other, from one byte to another
+abbrev pub StandInTurn : List ℕ → ℕ → List ℕ → ℕ → Type 0
+StandInTurn s at [] end = at ≡ end
+StandInTurn s at (n ∷ ns) end = (size : ℕ) × NumberWritten (drop at s) n size × StandInTurn s (at + size) ns end
+
+-- the same behind a flags byte
+abbrev pub StandAsLeaf : List ℕ → ℕ → List ℕ → ℕ → Type 0
+StandAsLeaf s at [] end = ⊥
+StandAsLeaf s at (f ∷ ns) end = (drop at s ≡ f ∷ drop 1 (drop at s)) × StandInTurn s (at + 1) ns end
+
+-- each of them can be written
+abbrev pub AreNumbers : List ℕ → Type 0
+AreNumbers [] = Unit {0}
+AreNumbers (n ∷ ns) = (n < 2 ^ 64) × AreNumbers ns
+
+abbrev pub AreLeafNumbers : List ℕ → Type 0
+AreLeafNumbers [] = ⊥
+AreLeafNumbers (f ∷ ns) = AreNumbers ns
+
 -- the refusals of single fields: 4 to 9 without 8
 abbrev pub is_of_field : ℕ → Bool
 is_of_field n = nat_le 4 n && (nat_le n 9 && not (n == 8))
 
-module _ {Role W M L : Type 0} (y : Layout Role W M L) where
-  -- the window is judged after the leaf's last byte, at its first
-  abbrev pub reading : List ℕ → ℕ → Answer L
-  reading s at = next (run y.table y.plan s at) (λ m end. cond (y.is_window m) (found (y.leaf m) end) (refused (at_byte 8 at)))
+module _ {Role Written Made L : Type 0} (y : Layout Role Written Made L) where
+  -- the leaf that stands at a byte: its window is judged after its last byte, and its first is named
+  abbrev pub leaf_under : List ℕ → ℕ → Answer L
+  leaf_under s at = next (made_at y.table y.plan s at) (λ m end. cond (y.is_window m) (found (y.leaf m) end) (refused (at_byte 8 at)))
 
-  abbrev pub bytes_of : W → List ℕ
+  abbrev pub bytes_of : Written → List ℕ
   bytes_of w = spelled_leaf (y.numbers w)
 
-  abbrev pub is_window_of : W → Bool
-  is_window_of w = y.is_window (y.made w)
+  -- of a leaf as written, whether its minimum is at most its maximum, and the leaf that it stands for
+  abbrev pub is_written_window : Written → Bool
+  is_written_window w = y.is_window (y.made w)
 
-  abbrev pub leaf_of : W → L
-  leaf_of w = y.leaf (y.made w)
+  abbrev pub written_leaf : Written → L
+  written_leaf w = y.leaf (y.made w)
+
+  -- what a layout shows, from which all below follows
+  pub record LayoutLaws : Type 0 where
+    -- the refusals of its fields are those of single fields
+    pub own : (r : Role) → is_of_field (y.table.refusal r) ≡ true
+    -- what fits can be written
+    pub below : (w : Written) → y.fits w ≡ true → AreLeafNumbers (y.numbers w)
+    -- what the fields make is a leaf as written whose numbers stand there, and such a leaf is made
+    pub stood : (s : List ℕ) (at : ℕ) (m : Made) (end : ℕ) → Makes y.table s y.plan at m end → (w : Written) × (y.fits w ≡ true) × (y.made w ≡ m) × StandAsLeaf s at (y.numbers w) end
+    pub makes : (s : List ℕ) (at : ℕ) (w : Written) (end : ℕ) → y.fits w ≡ true → StandAsLeaf s at (y.numbers w) end → Makes y.table s y.plan at (y.made w) end
+    -- no two make the same
+    pub same : (w v : Written) → y.fits w ≡ true → y.fits v ≡ true → y.made w ≡ y.made v → w ≡ v
 
   module _ (s : List ℕ) (at : ℕ) where
     -- the bytes of a leaf as written, whose fields are in order, stand there up to another byte
-    pub record LeafStands (w : W) (end : ℕ) : Type 0 where
+    pub record LeafStands (w : Written) (end : ℕ) : Type 0 where
       pub fits : y.fits w ≡ true
       pub bytes : drop at s ≡ bytes_of w ++ drop end s
       pub ends : end ≡ at + length (bytes_of w)
@@ -61,7 +93,7 @@ module _ {Role W M L : Type 0} (y : Layout Role W M L) where
     pub record LeafJudged (a : Answer L) : Type 0 where
       pub one : OneAnswer a
       -- a leaf whose fields are in order, and whose minimum is at most its maximum, is read, up to its end
-      pub read : (x : L) (end : ℕ) → (a ≡ found x end) ↔ ((w : W) × LeafStands w end × (is_window_of w ≡ true) × (x ≡ leaf_of w))
+      pub read : (x : L) (end : ℕ) → (a ≡ found x end) ↔ ((w : Written) × LeafStands w end × (is_written_window w ≡ true) × (x ≡ written_leaf w))
       -- 2: the first field that is not in order is one in which the sheet ends; the sheet's length is named
       pub two : (a ≡ refused (at_byte 2 (length s))) ↔ EndsEarly y.table s y.plan at
       -- 3: it is one in which no number stands, not the shortest or 2^64 and up; its first byte is named
@@ -69,30 +101,4 @@ module _ {Role W M L : Type 0} (y : Layout Role W M L) where
       -- 4 to 9 but 8: it is one in which that may not stand which stands there
       pub unfit : (n p : ℕ) → is_of_field n ≡ true → (a ≡ refused (at_byte n p)) ↔ Unfit y.table s y.plan at n p
       -- 8: all fields are in order, and the minimum is above the maximum; the flags are named
-      pub eight : (p : ℕ) → (a ≡ refused (at_byte 8 p)) ↔ ((p ≡ at) × ((w : W) × (end : ℕ) × LeafStands w end × (is_window_of w ≡ false)))
-
-  -- leaves as written, and a reader of the leaves that they stand for
-  pub record LeafGrammar (read : List ℕ → ℕ → Answer L) : Type 0 where
-    -- on any sheet of bytes, from any byte on
-    pub judged : (s : List ℕ) (at : ℕ) → Bytes s → LeafJudged s at (read s at)
-    -- the bytes of a leaf are read as that leaf, wherever they stand
-    pub read_back : (w : W) (front rest : List ℕ) → y.fits w ≡ true → is_window_of w ≡ true → read (front ++ (bytes_of w ++ rest)) (length front) ≡ found (leaf_of w) (length front + length (bytes_of w))
-    -- and are those of no other leaf
-    pub alone : (w v : W) (rest others : List ℕ) → y.fits w ≡ true → y.fits v ≡ true → bytes_of w ++ rest ≡ bytes_of v ++ others → w ≡ v
-
--- the first byte of a sheet, which says how its leaves stand there
-abbrev pub kind_of : List ℕ → ℕ
-kind_of [] = 0
-kind_of (b ∷ bs) = b
-
-module _ {Role W M L : Type 0} (y : ℕ → Layout Role W M L) where
-  abbrev pub sheet_reading : List ℕ → ℕ → Answer L
-  sheet_reading s at = reading (y (kind_of s)) s at
-
-  -- the grammar of leaves whose bytes depend on the kind byte
-  pub record SheetGrammar (read : List ℕ → ℕ → Answer L) : Type 0 where
-    pub judged : (s : List ℕ) (at : ℕ) → Bytes s → LeafJudged (y (kind_of s)) s at (read s at)
-    -- behind the kind byte b
-    pub read_back : (b : ℕ) (w : W) (front rest : List ℕ) → (y b).fits w ≡ true → is_window_of (y b) w ≡ true →
-        read ((b ∷ front) ++ (bytes_of (y b) w ++ rest)) (length (b ∷ front)) ≡ found (leaf_of (y b) w) (length (b ∷ front) + length (bytes_of (y b) w))
-    pub alone : (b : ℕ) (w v : W) (rest others : List ℕ) → (y b).fits w ≡ true → (y b).fits v ≡ true → bytes_of (y b) w ++ rest ≡ bytes_of (y b) v ++ others → w ≡ v
+      pub eight : (p : ℕ) → (a ≡ refused (at_byte 8 p)) ↔ ((p ≡ at) × ((w : Written) × (end : ℕ) × LeafStands w end × (is_written_window w ≡ false)))

@@ -1,10 +1,11 @@
 pub mod Numbers
 pub mod Encoding
-pub mod Kind
-pub mod Laws
 pub mod Reading
 pub mod Fields
 pub mod Plans
 pub mod Layouts
+pub mod Kind
+pub mod Grammar
 pub mod Windows
 pub mod Tests
+pub mod Laws

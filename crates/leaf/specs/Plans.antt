@@ -71,11 +71,11 @@ head flags bound = then (field flags) (λ f. bounds bound f)
 
 module _ {Role : Type 0} (t : Table Role) where
   -- reading: the first field that is not in order gives its refusal
-  abbrev pub run : {A : Type 0} → Plan Role A → List ℕ → ℕ → Answer A
-  run (done x) s at = found x at
-  run (ask r k) s at = next (shape_at (t.shape r) s at) (λ n e. cond (t.fits r n) (run (k at n) s e) (refused (at_byte (t.refusal r) (t.named r at))))
-  run (either b p q) s at = cond b (run p s at) (run q s at)
-  run (then p k) s at = next (run p s at) (λ x e. run (k x) s e)
+  abbrev pub made_at : {A : Type 0} → Plan Role A → List ℕ → ℕ → Answer A
+  made_at (done x) s at = found x at
+  made_at (ask r k) s at = next (shape_at (t.shape r) s at) (λ n e. cond (t.fits r n) (made_at (k at n) s e) (refused (at_byte (t.refusal r) (t.named r at))))
+  made_at (either b p q) s at = cond b (made_at p s at) (made_at q s at)
+  made_at (then p k) s at = next (made_at p s at) (λ x e. made_at (k x) s e)
 
   module _ (s : List ℕ) where
     -- n stands in the field r from a byte on, and may

@@ -1,8 +1,8 @@
 -- A sheet that is read part by part.
-use Rattle.std.specs.Prelude.{◌≡◌, ℕ, ◌+◌, ◌-◌, List, [], ◌∷◌, length, drop, Ok, Err, Result}
+use Rattle.std.specs.Prelude.{◌≡◌, ℕ, ◌+◌, ◌-◌, List, [], ◌∷◌, length, drop, Ok, Err, Result, ⊤}
 use Rattle.faults.specs.declared.fault.Fault.{Fault}
 use Rattle.leaf.specs.declared.reader.Reader.{Reader}
-use Rattle.faults.specs.Faults.{Answer, found, refused, at_byte, shown}
+use Rattle.faults.specs.Faults.{Answer, Fills, found, refused, at_byte, shown}
 
 -- the whole sheet, and the place on it of the byte that comes next
 abbrev pub sheet_of : Reader → List ℕ
@@ -35,3 +35,11 @@ byte_in end at (b ∷ bs) = found b (at + 1)
 
 abbrev pub byte_at : List ℕ → ℕ → Answer ℕ
 byte_at sheet at = byte_in (length sheet) at (drop at sheet)
+
+-- a part fills the place lent, and the reader stands behind it; a refusal leaves the place as it was
+abbrev pub ended : {A : Type 0} → Result A Fault → ℕ → Result ℕ Fault
+ended (Ok _) end = Ok end
+ended (Err f) end = Err f
+
+abbrev pub ReadsInto : {A : Type 0} → (List ℕ → ℕ → Answer A) → Reader → Reader → A → A → Result ⊤ Fault → Type 0
+ReadsInto part old new was is r = (sheet_of new ≡ sheet_of old) × Fills (part (sheet_of old) (at_of old)) was is (ended r (at_of new))

@@ -1,9 +1,12 @@
 ghost use Rattle.faults.specs.Faults.{Fills};
-ghost use Rattle.leaf.specs.Kind.{Kind, Lawful, Laws, before, touches};
+ghost use Rattle.leaf.specs.Grammar.{AnswersStand, LeafGrammar};
+ghost use Rattle.leaf.specs.Kind.{Kind, Lawful, Laws, before, leaf_at, touches};
 ghost use Rattle.leaf.specs.Kind.{admits as admitted, covers as covering};
-ghost use Rattle.std.specs.Prelude.{◌≡◌};
+ghost use Rattle.leaf.specs.Reading.{ReadsInto};
+ghost use Rattle.std.specs.Prelude.{◌≡◌, ◌<◌, ◌≤◌, length, IfOk, OnOk};
 
 use crate::bounds::{Bounds, contains, includes, is_low};
+use crate::reader::Reader;
 use faults::Fault;
 
 // A kind of leaf over the values V. Each question answers for every leaf, lawful or not; the laws are of lawful ones.
@@ -52,10 +55,23 @@ pub trait Leaf<V: Copy>: Copy {
     fn is_kind(b: u8) -> bool
         ensures { result ≡ kind.kind_byte b };
 
-    // The leaf that starts there, into the place lent, which a refusal leaves as it was; the answer is where it ends. Into a place and not as a
-    // value: the project's rule for reading a leaf.
-    fn read(sheet: &[u8], start: usize, place: &mut Self) -> Result<usize, Fault>
-        ensures { Fills (kind.reading sheet.now start) place.old place.new result };
+    /// The leaf whose first byte the reader stands at, into the place lent, which a refusal leaves as it was.
+    fn read_fields(reader: &mut Reader<'_>, place: &mut Self) -> Result<(), Fault>
+        ensures { ReadsInto (leaf_at kind) reader.old reader.new place.old place.new result };
+
+    /// The leaf that starts at a byte of a sheet, into the place lent, which a refusal leaves as it was; the answer
+    /// is where it ends.
+    final fn read(sheet: &[u8], start: usize, place: &mut Self) -> Result<usize, Fault>
+        ensures reads { Fills (leaf_at kind sheet.now start) place.old place.new result }
+        ensures judged { AnswersStand kind sheet.now start }
+        ensures grammar { LeafGrammar kind }
+        ensures within { IfOk result (λ end. (start < end) × (end ≤ length sheet.now)) }
+        ensures lawful { OnOk result (Lawful kind place.new) }
+    {
+        let mut reader = Reader::new(sheet, start);
+        Self::read_fields(&mut reader, place)?;
+        Ok(reader.at())
+    }
 
     ghost lawfully: { Laws kind };
 }

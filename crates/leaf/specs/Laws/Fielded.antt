@@ -6,14 +6,14 @@ use Rattle.leaf.specs.Fields.{byte, number, Stands}
 use Rattle.leaf.specs.Encoding.{Written}
 use Rattle.leaf.specs.Numbers.{has_bit}
 use Rattle.leaf.specs.Plans.{Table, Plan, done, ask, either, then, field, head, bounds, Makes, Reached, Unfit, NumberDue}
-use Rattle.leaf.specs.Laws.Rows.{Row}
+use Rattle.leaf.specs.Layouts.{StandInTurn}
 
 module _ {Role : Type 0} (t : Table Role) (s : List ℕ) where
-  pub number_made : (r : Role) (at n end : ℕ) → t.shape r ≡ number → Makes t s (field r) at n end → (t.fits r n ≡ true) × Row s at (n ∷ []) end
+  pub number_made : (r : Role) (at n end : ℕ) → t.shape r ≡ number → Makes t s (field r) at n end → (t.fits r n ≡ true) × StandInTurn s at (n ∷ []) end
   number_made r at n end h (m, size, w, (e, f)) =
       (subst (λ z. t.fits r z ≡ true) e w.fits, (size, subst (λ z. Stands number (drop at s) z size) e (subst (λ z. Stands z (drop at s) m size) h w.stands), f))
 
-  pub number_makes : (r : Role) (at n end : ℕ) → t.shape r ≡ number → t.fits r n ≡ true → Row s at (n ∷ []) end → Makes t s (field r) at n end
+  pub number_makes : (r : Role) (at n end : ℕ) → t.shape r ≡ number → t.fits r n ≡ true → StandInTurn s at (n ∷ []) end → Makes t s (field r) at n end
   number_makes r at n end h f (size, w, e) = (n, size, record { stands = subst (λ z. Stands z (drop at s) n size) (sym h) w; fits = f }, (refl, e))
 
   pub byte_made : (r : Role) (at n end : ℕ) → t.shape r ≡ byte → Makes t s (field r) at n end → (t.fits r n ≡ true) × (drop at s ≡ n ∷ drop 1 (drop at s)) × (at + 1 ≡ end)

@@ -4,38 +4,28 @@ use Rattle.std.proofs.Common.{drop-drop, sym, ap, ◌∙◌, subst, inl, inr, �
 use Rattle.std.proofs.lemmas.Bool.{cond-true, cond-false, cases_Bool, true≢false}
 use Rattle.faults.specs.Faults.{Answer, Refused, found, refused, next, at_byte}
 use Rattle.leaf.specs.Encoding.{Bytes}
-use Rattle.leaf.specs.Kind.{Kind, Lawful, WellRead}
-use Rattle.leaf.specs.Plans.{run, Makes, Reached, EndsEarly, BadNumber, Unfit}
-use Rattle.leaf.specs.Layouts.{Layout, reading, sheet_reading, is_of_field, bytes_of, is_window_of, leaf_of, LeafStands, OneAnswer, LeafJudged, LeafGrammar, SheetGrammar, kind_of}
+use Rattle.leaf.specs.Kind.{Kind, Laws, first_of, Lawful, layout_of, leaf_at}
+use Rattle.leaf.specs.Grammar.{AnswersStand, LeafGrammar, WellRead}
+use Rattle.leaf.specs.Plans.{made_at, Makes, Reached, EndsEarly, BadNumber, Unfit}
+use Rattle.leaf.specs.Layouts.{AreLeafNumbers, Layout, LayoutLaws, LeafJudged, LeafStands, OneAnswer, StandAsLeaf, StandInTurn, bytes_of, is_of_field, is_written_window, leaf_under, written_leaf}
 use Rattle.leaf.specs.Laws.Writing.{found_refused}
-use Rattle.leaf.specs.Laws.Rows.{Row, LeafRow, BelowFlags, row_leaf, leaf_row, drop_front, written_within}
+use Rattle.leaf.specs.Laws.Rows.{row_leaf, leaf_row, drop_front, written_within}
 use Rattle.leaf.specs.Laws.Runs.{Halts, early, bad, unfit, Says, answers, says}
 
 module _ {Role W M L : Type 0} (y : Layout Role W M L) where
-  -- what a layout shows
-  pub record Shown : Type 0 where
-    -- the refusals of single fields
-    pub own : (r : Role) → is_of_field (y.table.refusal r) ≡ true
-    -- what fits can be written
-    pub below : (w : W) → y.fits w ≡ true → BelowFlags (y.numbers w)
-    -- what the fields make is a leaf as written whose numbers stand there, and such a leaf is made
-    pub stood : (s : List ℕ) (at : ℕ) (m : M) (end : ℕ) → Makes y.table s y.plan at m end → (w : W) × (y.fits w ≡ true) × (y.made w ≡ m) × LeafRow s at (y.numbers w) end
-    pub makes : (s : List ℕ) (at : ℕ) (w : W) (end : ℕ) → y.fits w ≡ true → LeafRow s at (y.numbers w) end → Makes y.table s y.plan at (y.made w) end
-    pub same : (w v : W) → y.fits w ≡ true → y.fits v ≡ true → y.made w ≡ y.made v → w ≡ v
-
-  module _ (k : Shown) (s : List ℕ) (at : ℕ) where
-    abbrev judge : Answer M → Answer L
+  module _ (k : LayoutLaws y) (s : List ℕ) (at : ℕ) where
+    abbrev pub judge : Answer M → Answer L
     judge o = next o (λ m e. cond (y.is_window m) (found (y.leaf m) e) (refused (at_byte 8 at)))
 
     -- a leaf whose bytes stand there is made
-    pub is_made : (w : W) (e : ℕ) → LeafStands y s at w e → run y.table y.plan s at ≡ found (y.made w) e
+    pub is_made : (w : W) (e : ℕ) → LeafStands y s at w e → made_at y.table y.plan s at ≡ found (y.made w) e
     is_made w e h =
         answers y.table s y.plan at (found (y.made w) e)
-        (k.makes s at w e h.fits (subst (LeafRow s at (y.numbers w)) (sym h.ends) (leaf_row s at (y.numbers w) (drop e s) (k.below w h.fits) h.bytes)))
+        (k.makes s at w e h.fits (subst (StandAsLeaf s at (y.numbers w)) (sym h.ends) (leaf_row s at (y.numbers w) (drop e s) (k.below w h.fits) h.bytes)))
 
     module _ (b : Bytes s) where
       abbrev o : Answer M
-      o = run y.table y.plan s at
+      o = made_at y.table y.plan s at
 
       -- what is made stands there
       Stood : M → ℕ → Type 0
@@ -110,14 +100,14 @@ module _ {Role W M L : Type 0} (y : Layout Role W M L) where
           subst (λ v. Unfit y.table s y.plan at v b) (sym (numbers_same e)) (subst (Unfit y.table s y.plan at n) (sym (bytes_same e)) x)
       unfit_by m b g (inr (w, e, q, t, h)) = not_own m 8 (numbers_same h) g refl
 
-      eight_by : (b : ℕ) → Told (at_byte 8 b) ⊎ Crossed (at_byte 8 b) → (b ≡ at) × ((w : W) × (end : ℕ) × LeafStands y s at w end × (is_window_of y w ≡ false))
+      eight_by : (b : ℕ) → Told (at_byte 8 b) ⊎ Crossed (at_byte 8 b) → (b ≡ at) × ((w : W) × (end : ℕ) × LeafStands y s at w end × (is_written_window y w ≡ false))
       unfolding Stood
       eight_by b (inl (inl (e, x))) = absurd (let z = numbers_same e in omega (arith, z))
       eight_by b (inl (inr (inl (p, e, x)))) = absurd (let z = numbers_same e in omega (arith, z))
       eight_by b (inl (inr (inr (n, p, e, x)))) = not_own n 8 (sym (numbers_same e)) (field_number n p x) refl
       eight_by b (inr (m, e, q, t, h)) = let (w, l, i) = stands m e q in (bytes_same h, (w, e, l, ap y.is_window i ∙ t))
 
-      read_by : (z : Answer M) (x : L) (end : ℕ) → o ≡ z → judge z ≡ found x end → (w : W) × LeafStands y s at w end × (is_window_of y w ≡ true) × (x ≡ leaf_of y w)
+      read_by : (z : Answer M) (x : L) (end : ℕ) → o ≡ z → judge z ≡ found x end → (w : W) × LeafStands y s at w end × (is_written_window y w ≡ true) × (x ≡ written_leaf y w)
       unfolding Stood
       read_by (refused f) x end q h = absurd (found_refused (sym h))
       read_by (found m e) x end q h =
@@ -151,18 +141,18 @@ module _ {Role W M L : Type 0} (y : Layout Role W M L) where
         one = one_by (judge o) refl;
         read = λ x end. (
           read_by o x end refl,
-          (λ (w, h, t, e). ap judge (is_made w end h) ∙ (cond-true (is_window_of y w) (found (leaf_of y w) end) (refused (at_byte 8 at)) t ∙ ap (λ (z : L). found z end) (sym e))),
+          (λ (w, h, t, e). ap judge (is_made w end h) ∙ (cond-true (is_written_window y w) (found (written_leaf y w) end) (refused (at_byte 8 at)) t ∙ ap (λ (z : L). found z end) (sym e))),
         );
         two = ((λ h. two_by (came (at_byte 2 (length s)) h)), (λ (q, p, r, c). ap judge (answers y.table s y.plan at (refused (at_byte 2 (length s))) (q, p, r, early c))));
         three = λ p. ((λ h. three_by p (came (at_byte 3 p) h)), (λ (q, r, c). ap judge (answers y.table s y.plan at (refused (at_byte 3 p)) (q, p, r, bad c))));
         unfit = λ n p g. ((λ h. unfit_by n p g (came (at_byte n p) h)), (λ x. ap judge (unfit_runs n p x)));
         eight = λ p. (
           (λ h. eight_by p (came (at_byte 8 p) h)),
-          (λ (e, (w, end, h, t)). ap judge (is_made w end h) ∙ (cond-false (is_window_of y w) (found (leaf_of y w) end) (refused (at_byte 8 at)) t ∙ ap (λ (z : ℕ). refused (at_byte 8 z)) (sym e))),
+          (λ (e, (w, end, h, t)). ap judge (is_made w end h) ∙ (cond-false (is_written_window y w) (found (written_leaf y w) end) (refused (at_byte 8 at)) t ∙ ap (λ (z : ℕ). refused (at_byte 8 z)) (sym e))),
         );
       }
 
-  module _ (k : Shown) where
+  module _ (k : LayoutLaws y) where
     -- a leaf's bytes stand behind what is in front of them
     at_front : (w : W) (front rest : List ℕ) → y.fits w ≡ true → LeafStands y (front ++ (bytes_of y w ++ rest)) (length front) w (length front + length (bytes_of y w))
     at_front w front rest f =
@@ -171,24 +161,24 @@ module _ {Role W M L : Type 0} (y : Layout Role W M L) where
         let e : drop (length front + length (bytes_of y w)) s ≡ rest = sym (drop-drop (length (bytes_of y w)) (length front) s) ∙ (ap (drop (length (bytes_of y w))) d ∙ drop_front (bytes_of y w) rest) in
         record { fits = f; bytes = d ∙ ap (λ (xs : List ℕ). bytes_of y w ++ xs) (sym e); ends = refl }
 
-    made_back : (w : W) (front rest : List ℕ) → y.fits w ≡ true → run y.table y.plan (front ++ (bytes_of y w ++ rest)) (length front) ≡ found (y.made w) (length front + length (bytes_of y w))
+    made_back : (w : W) (front rest : List ℕ) → y.fits w ≡ true → made_at y.table y.plan (front ++ (bytes_of y w ++ rest)) (length front) ≡ found (y.made w) (length front + length (bytes_of y w))
     made_back w front rest f = is_made k (front ++ (bytes_of y w ++ rest)) (length front) w (length front + length (bytes_of y w)) (at_front w front rest f)
 
-    pub leaf_grammar : LeafGrammar y (reading y)
-    leaf_grammar = record {
-      judged = λ s at b. leaf_judged k s at b;
-      read_back = λ w front rest f t.
-          ap (judge k (front ++ (bytes_of y w ++ rest)) (length front)) (made_back w front rest f)
-          ∙ cond-true (is_window_of y w) (found (leaf_of y w) (length front + length (bytes_of y w))) (refused (at_byte 8 (length front))) t;
-      alone = λ w v rest others f g e.
-          let p = made_back w [] rest f in
-          let q = made_back v [] others g in
-          let r : found (y.made w) (0 + length (bytes_of y w)) ≡ found (y.made v) (0 + length (bytes_of y v)) = sym p ∙ (ap (λ (xs : List ℕ). run y.table y.plan xs 0) e ∙ q) in
-          k.same w v f g cc;
-    }
+    pub read_back : (w : W) (front rest : List ℕ) → y.fits w ≡ true → is_written_window y w ≡ true →
+        leaf_under y (front ++ (bytes_of y w ++ rest)) (length front) ≡ found (written_leaf y w) (length front + length (bytes_of y w))
+    read_back w front rest f t =
+        ap (judge k (front ++ (bytes_of y w ++ rest)) (length front)) (made_back w front rest f)
+        ∙ cond-true (is_written_window y w) (found (written_leaf y w) (length front + length (bytes_of y w))) (refused (at_byte 8 (length front))) t
+
+    pub alone : (w v : W) (rest others : List ℕ) → y.fits w ≡ true → y.fits v ≡ true → bytes_of y w ++ rest ≡ bytes_of y v ++ others → w ≡ v
+    alone w v rest others f g e =
+        let p = made_back w [] rest f in
+        let q = made_back v [] others g in
+        let r : found (y.made w) (0 + length (bytes_of y w)) ≡ found (y.made v) (0 + length (bytes_of y v)) = sym p ∙ (ap (λ (xs : List ℕ). made_at y.table y.plan xs 0) e ∙ q) in
+        k.same w v f g cc
 
     -- what is read ends past its start and within the sheet
-    row_ends : (s : List ℕ) (at : ℕ) (ns : List ℕ) (end : ℕ) → at ≤ length s → Row s at ns end → (at ≤ end) × (end ≤ length s)
+    row_ends : (s : List ℕ) (at : ℕ) (ns : List ℕ) (end : ℕ) → at ≤ length s → StandInTurn s at ns end → (at ≤ end) × (end ≤ length s)
     row_ends s at [] end h r = (omega (arith, r), omega (arith, r))
     row_ends s at (n ∷ ns) end h (size, w, r) =
         let i = written_within (drop at s) n size w in
@@ -196,7 +186,7 @@ module _ {Role W M L : Type 0} (y : Layout Role W M L) where
         let q = row_ends s (at + size) ns end (omega arith) r in
         (omega (arith, q.0), q.1)
 
-    leaf_row_ends : (s : List ℕ) (at : ℕ) (ns : List ℕ) (end : ℕ) → LeafRow s at ns end → (at < end) × (end ≤ length s)
+    leaf_row_ends : (s : List ℕ) (at : ℕ) (ns : List ℕ) (end : ℕ) → StandAsLeaf s at ns end → (at < end) × (end ≤ length s)
     leaf_row_ends s at [] end r = absurd r
     leaf_row_ends s at (f ∷ ns) end (e, r) =
         let l = length-drop at s in
@@ -204,24 +194,33 @@ module _ {Role W M L : Type 0} (y : Layout Role W M L) where
         let q = row_ends s (at + 1) ns end (omega arith) r in
         (omega (arith, q.0), q.1)
 
-    pub well_read_so : {V : Type 0} (kind : Kind V L) → ((w : W) → y.fits w ≡ true → is_window_of y w ≡ true → Lawful kind (leaf_of y w)) → (s : List ℕ) (at : ℕ) → WellRead kind s at (reading y s at)
-    well_read_so kind lawful s at = by (run y.table y.plan s at) (says y.table s y.plan at)
-      where
-        by : (a : Answer M) → Says y.table s y.plan at a → WellRead kind s at (judge k s at a)
-        by (refused f) h = tt
-        by (found m e) h =
-            let (w, f, i, l) = k.stood s at m e h in
-            ⊎_elim
-            (λ t. subst (WellRead kind s at) (sym (cond-true (y.is_window m) (found (y.leaf m) e) (refused (at_byte 8 at)) t)) (
-            let r = leaf_row_ends s at (y.numbers w) e l in
-            (subst (Lawful kind) (ap y.leaf i) (lawful w f (ap y.is_window i ∙ t)), r.0, r.1)))
-            (λ t. subst (WellRead kind s at) (sym (cond-false (y.is_window m) (found (y.leaf m) e) (refused (at_byte 8 at)) t)) tt)
-            (cases_Bool (y.is_window m))
+    -- what is made at a byte ends past it
+    pub made_ends : (s : List ℕ) (at : ℕ) (m : M) (end : ℕ) → Makes y.table s y.plan at m end → (w : W) × (y.fits w ≡ true) × (y.made w ≡ m) × (at < end) × (end ≤ length s)
+    made_ends s at m end h = let (w, f, i, l) = k.stood s at m end h in let r = leaf_row_ends s at (y.numbers w) end l in (w, f, i, r.0, r.1)
 
-module _ {Role W M L : Type 0} (y : ℕ → Layout Role W M L) (k : (b : ℕ) → Shown (y b)) where
-  pub sheet_grammar : SheetGrammar y (sheet_reading y)
-  sheet_grammar = record {
-    judged = λ s at b. (leaf_grammar (y (kind_of s)) (k (kind_of s))).judged s at b;
-    read_back = λ b w front rest f t. (leaf_grammar (y b) (k b)).read_back w (b ∷ front) rest f t;
-    alone = λ b. (leaf_grammar (y b) (k b)).alone;
+-- of a kind
+module _ {V L : Type 0} (k : Kind V L) (laws : Laws k) where
+  pub answers_stand : (s : List ℕ) (at : ℕ) → Bytes s → AnswersStand k s at
+  answers_stand s at b = leaf_judged (layout_of k s) (laws.layouts (first_of s)) s at b
+
+  pub leaf_grammar : LeafGrammar k
+  leaf_grammar = record {
+    read_back = λ b w front rest f t. read_back (k.layout b) (laws.layouts b) w (b ∷ front) rest f t;
+    alone = λ b. alone (k.layout b) (laws.layouts b);
   }
+
+  pub well_read : (s : List ℕ) (at : ℕ) → WellRead k s at (leaf_at k s at)
+  well_read s at = by (made_at (layout_of k s).table (layout_of k s).plan s at) (says (layout_of k s).table s (layout_of k s).plan at)
+    where
+      shown : LayoutLaws (layout_of k s)
+      shown = laws.layouts (first_of s)
+
+      by : (a : Answer k.Made) → Says (layout_of k s).table s (layout_of k s).plan at a → WellRead k s at (judge (layout_of k s) shown s at a)
+      by (refused f) h = tt
+      by (found m e) h =
+          let y = layout_of k s in
+          let (w, f, i, l, r) = made_ends y shown s at m e h in
+          ⊎_elim
+          (λ t. subst (WellRead k s at) (sym (cond-true (y.is_window m) (found (y.leaf m) e) (refused (at_byte 8 at)) t)) (subst (Lawful k) (ap y.leaf i) (laws.written_lawful (first_of s) w f (ap y.is_window i ∙ t)), l, r))
+          (λ t. subst (WellRead k s at) (sym (cond-false (y.is_window m) (found (y.leaf m) e) (refused (at_byte 8 at)) t)) tt)
+          (cases_Bool (y.is_window m))

@@ -7,14 +7,15 @@ use Rattle.leaf.specs.Fields.{byte, number, Stands}
 use Rattle.leaf.specs.Numbers.{has_bit}
 use Rattle.leaf.specs.Plans.{Table, Plan, done, ask, either, then, field, head, optional, optional_fits, optional_made, repeat, all_numbers, fits_if, numbers_if, Makes}
 use Rattle.leaf.specs.Windows.{written}
-use Rattle.leaf.specs.Laws.Rows.{AllBelow, both_below, LeafRow, BelowFlags, Row, row_join, row_parts}
+use Rattle.leaf.specs.Layouts.{AreLeafNumbers, AreNumbers, StandAsLeaf, StandInTurn}
+use Rattle.leaf.specs.Laws.Rows.{both_below, row_join, row_parts}
 use Rattle.leaf.specs.Laws.Fielded.{bounds_made, byte_made, byte_makes, number_made, number_makes}
 
 module _ {Role : Type 0} (t : Table Role) where
   pub record Part {W A : Type 0} (plan : Plan Role A) (numbers : W → List ℕ) (fits : W → Bool) (made : W → A) : Type 0 where
-    pub stood : (s : List ℕ) (at : ℕ) (x : A) (end : ℕ) → Makes t s plan at x end → (w : W) × (fits w ≡ true) × (made w ≡ x) × Row s at (numbers w) end
-    pub makes : (s : List ℕ) (at : ℕ) (w : W) (end : ℕ) → fits w ≡ true → Row s at (numbers w) end → Makes t s plan at (made w) end
-    pub below : (w : W) → fits w ≡ true → AllBelow (numbers w)
+    pub stood : (s : List ℕ) (at : ℕ) (x : A) (end : ℕ) → Makes t s plan at x end → (w : W) × (fits w ≡ true) × (made w ≡ x) × StandInTurn s at (numbers w) end
+    pub makes : (s : List ℕ) (at : ℕ) (w : W) (end : ℕ) → fits w ≡ true → StandInTurn s at (numbers w) end → Makes t s plan at (made w) end
+    pub below : (w : W) → fits w ≡ true → AreNumbers (numbers w)
 
   -- a number
   pub number_part : (r : Role) → t.shape r ≡ number → ((n : ℕ) → t.fits r n ≡ true → n < 2 ^ 64) → Part (field r) (λ n. n ∷ []) (t.fits r) (λ n. n)
@@ -32,7 +33,7 @@ module _ {Role : Type 0} (t : Table Role) where
       stood = λ s at x end (y, mid, l, (z, e, r, (i, j))).
           let (w, c, m, h) = u.stood s at y mid l in
           let (o, d, n, k) = v.stood s mid z e r in
-          ((w, o), and_from (f w) (g o) c d, (λ τ. mk (m τ) (n τ)) ∙ i, row_join s (ns w) (ms o) at mid end h (subst (Row s mid (ms o)) j k));
+          ((w, o), and_from (f w) (g o) c d, (λ τ. mk (m τ) (n τ)) ∙ i, row_join s (ns w) (ms o) at mid end h (subst (StandInTurn s mid (ms o)) j k));
       makes = λ s at w end h r.
           let (c, d) = and_parts (f w.0) (g w.1) h in
           let (mid, l, k) = row_parts s (ns w.0) (ms w.1) at end r in
@@ -45,40 +46,40 @@ module _ {Role : Type 0} (t : Table Role) where
     pub optional_part : (present : Bool) → Part p ns f a → Part (optional present p) (numbers_if ns) (optional_fits present f) (optional_made a)
     optional_part present u = record { stood = stood present; makes = makes present; below = below present }
       where
-        stood : (present : Bool) (s : List ℕ) (at : ℕ) (x : Option A) (end : ℕ) → Makes t s (optional present p) at x end → (o : Option W) × (optional_fits present f o ≡ true) × (optional_made a o ≡ x) × Row s at (numbers_if ns o) end
-        stood true s at x end (inl (e, (z, mid, m, (i, j)))) = let (w, c, n, r) = u.stood s at z mid m in (Some w, c, (λ τ. Some (n τ)) ∙ i, subst (Row s at (ns w)) j r)
+        stood : (present : Bool) (s : List ℕ) (at : ℕ) (x : Option A) (end : ℕ) → Makes t s (optional present p) at x end → (o : Option W) × (optional_fits present f o ≡ true) × (optional_made a o ≡ x) × StandInTurn s at (numbers_if ns o) end
+        stood true s at x end (inl (e, (z, mid, m, (i, j)))) = let (w, c, n, r) = u.stood s at z mid m in (Some w, c, (λ τ. Some (n τ)) ∙ i, subst (StandInTurn s at (ns w)) j r)
         stood true s at x end (inr (e, m)) = absurd (true≢false e)
         stood false s at x end (inl (e, m)) = absurd (true≢false (sym e))
         stood false s at x end (inr (e, (i, r))) = (None, refl, i, r)
 
-        makes : (present : Bool) (s : List ℕ) (at : ℕ) (o : Option W) (end : ℕ) → optional_fits present f o ≡ true → Row s at (numbers_if ns o) end → Makes t s (optional present p) at (optional_made a o) end
+        makes : (present : Bool) (s : List ℕ) (at : ℕ) (o : Option W) (end : ℕ) → optional_fits present f o ≡ true → StandInTurn s at (numbers_if ns o) end → Makes t s (optional present p) at (optional_made a o) end
         makes true s at None end h r = absurd (true≢false (sym h))
         makes true s at (Some w) end h r = inl (refl, (a w, end, u.makes s at w end h r, (refl, refl)))
         makes false s at None end h r = inr (refl, (refl, r))
         makes false s at (Some w) end h r = absurd (true≢false (sym h))
 
-        below : (present : Bool) (o : Option W) → optional_fits present f o ≡ true → AllBelow (numbers_if ns o)
+        below : (present : Bool) (o : Option W) → optional_fits present f o ≡ true → AreNumbers (numbers_if ns o)
         below present None h = tt
         below true (Some w) h = u.below w h
         below false (Some w) h = absurd (true≢false (sym h))
 
   -- a count, and as many parts
   module _ {W A : Type 0} {p : Plan Role A} {ns : W → List ℕ} {f : W → Bool} {a : W → A} (u : Part p ns f a) where
-    repeat_stood : (k : ℕ) (s : List ℕ) (at : ℕ) (xs : List A) (end : ℕ) → Makes t s (repeat p k) at xs end → (ws : List W) × (k ≡ length ws) × (list_all f ws ≡ true) × (map a ws ≡ xs) × Row s at (all_numbers ns ws) end
+    repeat_stood : (k : ℕ) (s : List ℕ) (at : ℕ) (xs : List A) (end : ℕ) → Makes t s (repeat p k) at xs end → (ws : List W) × (k ≡ length ws) × (list_all f ws ≡ true) × (map a ws ≡ xs) × StandInTurn s at (all_numbers ns ws) end
     repeat_stood zero s at xs end (e, h) = ([], refl, refl, e, h)
     repeat_stood (suc k) s at xs end (x, mid, l, (ys, e, r, (i, j))) =
         let (w, c, m, h) = u.stood s at x mid l in
         let (ws, n, d, o, g) = repeat_stood k s mid ys e r in
-        (w ∷ ws, ap suc n, and_from (f w) (list_all f ws) c d, (λ τ. m τ ∷ o τ) ∙ i, row_join s (ns w) (all_numbers ns ws) at mid end h (subst (Row s mid (all_numbers ns ws)) j g))
+        (w ∷ ws, ap suc n, and_from (f w) (list_all f ws) c d, (λ τ. m τ ∷ o τ) ∙ i, row_join s (ns w) (all_numbers ns ws) at mid end h (subst (StandInTurn s mid (all_numbers ns ws)) j g))
 
-    repeat_makes : (ws : List W) (s : List ℕ) (at end : ℕ) → list_all f ws ≡ true → Row s at (all_numbers ns ws) end → Makes t s (repeat p (length ws)) at (map a ws) end
+    repeat_makes : (ws : List W) (s : List ℕ) (at end : ℕ) → list_all f ws ≡ true → StandInTurn s at (all_numbers ns ws) end → Makes t s (repeat p (length ws)) at (map a ws) end
     repeat_makes [] s at end h r = (refl, r)
     repeat_makes (w ∷ ws) s at end h r =
         let (c, d) = and_parts (f w) (list_all f ws) h in
         let (mid, l, k) = row_parts s (ns w) (all_numbers ns ws) at end r in
         (a w, mid, u.makes s at w mid c l, (map a ws, end, repeat_makes ws s mid end d k, (refl, refl)))
 
-    repeat_below : (ws : List W) → list_all f ws ≡ true → AllBelow (all_numbers ns ws)
+    repeat_below : (ws : List W) → list_all f ws ≡ true → AreNumbers (all_numbers ns ws)
     repeat_below [] h = tt
     repeat_below (w ∷ ws) h = let (c, d) = and_parts (f w) (list_all f ws) h in both_below (ns w) (all_numbers ns ws) (u.below w c) (repeat_below ws d)
 
@@ -135,17 +136,17 @@ module _ {Role : Type 0} (t : Table Role) where
     abbrev bounded : Bool → Bool → Plan Role (Option V)
     bounded present n = either present (bound n) (done None)
 
-    bound_stood : (present n : Bool) (s : List ℕ) (at : ℕ) (x : Option V) (end : ℕ) → Makes t s (bounded present n) at x end → (o : Option W) × (present ≡ is_some o) × (bound_fits n o ≡ true) × (written a o ≡ x) × Row s at (bound_numbers o) end
+    bound_stood : (present n : Bool) (s : List ℕ) (at : ℕ) (x : Option V) (end : ℕ) → Makes t s (bounded present n) at x end → (o : Option W) × (present ≡ is_some o) × (bound_fits n o ≡ true) × (written a o ≡ x) × StandInTurn s at (bound_numbers o) end
     bound_stood present n s at x end (inl (e, m)) = let (w, c, i, r) = (u n).stood s at x end m in (Some w, e, c, i, r)
     bound_stood present n s at x end (inr (e, (i, r))) = (None, e, refl, i, r)
 
-    bound_makes : (present n : Bool) (s : List ℕ) (at : ℕ) (o : Option W) (end : ℕ) → present ≡ is_some o → bound_fits n o ≡ true → Row s at (bound_numbers o) end → Makes t s (bounded present n) at (written a o) end
+    bound_makes : (present n : Bool) (s : List ℕ) (at : ℕ) (o : Option W) (end : ℕ) → present ≡ is_some o → bound_fits n o ≡ true → StandInTurn s at (bound_numbers o) end → Makes t s (bounded present n) at (written a o) end
     bound_makes present n s at None end e h r = inr (e, (refl, r))
     bound_makes present n s at (Some w) end e h r = inl (e, (u n).makes s at w end h r)
 
     module _ (l : FlagLaws) where
       pub headed_stood : (s : List ℕ) (at : ℕ) (z : Z) (end : ℕ) → Makes t s headed at z end →
-          (low : Option W) × (high : Option W) × (r : R) × (headed_fits low high r ≡ true) × (headed_made low high r ≡ z) × LeafRow s at (headed_numbers low high r) end
+          (low : Option W) × (high : Option W) × (r : R) × (headed_fits low high r ≡ true) × (headed_made low high r ≡ z) × StandAsLeaf s at (headed_numbers low high r) end
       headed_stood s at z end (w, m, (n, e, c, d), (x, h, y, (q, i))) =
           let (k, stands, j) = byte_made t s flags at n e l.shape c in
           let (mid, lo, hi) = bounds_made t s bound n e w m d in
@@ -160,12 +161,12 @@ module _ {Role : Type 0} (t : Table Role) where
             (λ τ. mk (lv τ) (hv τ) (rv τ)) ∙ q,
             (
               stands ∙ ap (λ (z : ℕ). z ∷ drop 1 (drop at s)) o,
-              subst (λ z. Row s z ((bound_numbers low ++ bound_numbers high) ++ ms r) end) (sym j)
-                  (row_join s (bound_numbers low ++ bound_numbers high) (ms r) e m end (row_join s (bound_numbers low) (bound_numbers high) e mid m lr hr) (subst (Row s m (ms r)) i rr)),
+              subst (λ z. StandInTurn s z ((bound_numbers low ++ bound_numbers high) ++ ms r) end) (sym j)
+                  (row_join s (bound_numbers low ++ bound_numbers high) (ms r) e m end (row_join s (bound_numbers low) (bound_numbers high) e mid m lr hr) (subst (StandInTurn s m (ms r)) i rr)),
             ),
           )
 
-      pub headed_makes : (s : List ℕ) (at : ℕ) (low high : Option W) (r : R) (end : ℕ) → headed_fits low high r ≡ true → LeafRow s at (headed_numbers low high r) end → Makes t s headed at (headed_made low high r) end
+      pub headed_makes : (s : List ℕ) (at : ℕ) (low high : Option W) (r : R) (end : ℕ) → headed_fits low high r ≡ true → StandAsLeaf s at (headed_numbers low high r) end → Makes t s headed at (headed_made low high r) end
       headed_makes s at low high r end h (d, row) =
           let (lb, hr) = and_parts (is_bounded low) (is_bounded high && g r) h in
           let (hb, rf) = and_parts (is_bounded high) (g r) hr in
@@ -184,13 +185,13 @@ module _ {Role : Type 0} (t : Table Role) where
             (b r, end, v.makes s m r end rf y, (refl, refl)),
           )
 
-      pub headed_below : (low high : Option W) (r : R) → headed_fits low high r ≡ true → BelowFlags (headed_numbers low high r)
+      pub headed_below : (low high : Option W) (r : R) → headed_fits low high r ≡ true → AreLeafNumbers (headed_numbers low high r)
       headed_below low high r h =
           let (lb, hr) = and_parts (is_bounded low) (is_bounded high && g r) h in
           let (hb, rf) = and_parts (is_bounded high) (g r) hr in
           let (k, lp, hp, lf, hf) = l.there low high lb hb in
           both_below (bound_numbers low ++ bound_numbers high) (ms r) (both_below (bound_numbers low) (bound_numbers high) (under (has_bit (flags_of low high) 2) low lf) (under (has_bit (flags_of low high) 3) high hf)) (v.below r rf)
         where
-          under : (n : Bool) (o : Option W) → bound_fits n o ≡ true → AllBelow (bound_numbers o)
+          under : (n : Bool) (o : Option W) → bound_fits n o ≡ true → AreNumbers (bound_numbers o)
           under n None h = tt
           under n (Some w) h = (u n).below w h

@@ -5,7 +5,7 @@ use Rattle.std.proofs.lemmas.List.{append_assoc, length-append, take-append-drop
 use Rattle.faults.specs.Faults.{found, refused, at_byte}
 use Rattle.leaf.specs.Encoding.{Written, Bytes, encode}
 use Rattle.leaf.specs.Fields.{Shape, byte, number, Stands, Ends, Misspelt, shape_at}
-use Rattle.leaf.specs.Layouts.{spelled, spelled_leaf}
+use Rattle.leaf.specs.Layouts.{AreLeafNumbers, AreNumbers, StandAsLeaf, StandInTurn, spelled, spelled_leaf}
 use Rattle.leaf.specs.Numbers.{number_at}
 use Rattle.leaf.specs.Reading.{byte_in}
 use Rattle.leaf.specs.Laws.Writing.{one_of, finds_it, cuts_it, bars_it}
@@ -48,25 +48,16 @@ pub drop_front : (xs ys : List ℕ) → drop (length xs) (xs ++ ys) ≡ ys
 drop_front [] ys = refl
 drop_front (x ∷ xs) ys = drop_front xs ys
 
--- these numbers stand one after the other, from one byte to another
-abbrev pub Row : List ℕ → ℕ → List ℕ → ℕ → Type 0
-Row s at [] end = at ≡ end
-Row s at (n ∷ ns) end = (size : ℕ) × Written (drop at s) n size × Row s (at + size) ns end
-
-abbrev pub AllBelow : List ℕ → Type 0
-AllBelow [] = Unit {0}
-AllBelow (n ∷ ns) = (n < 2 ^ 64) × AllBelow ns
-
-pub both_below : (xs ys : List ℕ) → AllBelow xs → AllBelow ys → AllBelow (xs ++ ys)
+pub both_below : (xs ys : List ℕ) → AreNumbers xs → AreNumbers ys → AreNumbers (xs ++ ys)
 both_below [] ys h g = g
 both_below (x ∷ xs) ys h g = (h.0, both_below xs ys h.1 g)
 
-pub row_parts : (s : List ℕ) (xs ys : List ℕ) (at end : ℕ) → Row s at (xs ++ ys) end → (mid : ℕ) × Row s at xs mid × Row s mid ys end
+pub row_parts : (s : List ℕ) (xs ys : List ℕ) (at end : ℕ) → StandInTurn s at (xs ++ ys) end → (mid : ℕ) × StandInTurn s at xs mid × StandInTurn s mid ys end
 row_parts s [] ys at end h = (at, refl, h)
 row_parts s (x ∷ xs) ys at end (size, w, h) = let r = row_parts s xs ys (at + size) end h in (r.0, (size, w, r.1), r.2)
 
-pub row_join : (s : List ℕ) (xs ys : List ℕ) (at mid end : ℕ) → Row s at xs mid → Row s mid ys end → Row s at (xs ++ ys) end
-row_join s [] ys at mid end h g = subst (λ (z : ℕ). Row s z ys end) (sym h) g
+pub row_join : (s : List ℕ) (xs ys : List ℕ) (at mid end : ℕ) → StandInTurn s at xs mid → StandInTurn s mid ys end → StandInTurn s at (xs ++ ys) end
+row_join s [] ys at mid end h g = subst (λ (z : ℕ). StandInTurn s z ys end) (sym h) g
 row_join s (x ∷ xs) ys at mid end (size, w, h) g = (size, w, row_join s xs ys (at + size) mid end h g)
 
 -- in bytes: the numbers stand there exactly where their encodings do
@@ -81,7 +72,7 @@ length_take_all zero xs h = refl
 length_take_all (suc k) [] h = absurd (omega arith)
 length_take_all (suc k) (x ∷ xs) h = ap suc (length_take_all k xs (omega arith))
 
-row_spelled : (s : List ℕ) (at : ℕ) (ns : List ℕ) (end : ℕ) → Bytes s → Row s at ns end → (drop at s ≡ spelled ns ++ drop end s) × (end ≡ at + length (spelled ns))
+row_spelled : (s : List ℕ) (at : ℕ) (ns : List ℕ) (end : ℕ) → Bytes s → StandInTurn s at ns end → (drop at s ≡ spelled ns ++ drop end s) × (end ≡ at + length (spelled ns))
 row_spelled s at [] end b h = (ap (λ (k : ℕ). drop k s) h, omega (arith, h))
 row_spelled s at (n ∷ ns) end b (size, w, h) =
     let t = (one_to_one.back (drop at s) n size (bytes_drop at s b) w).0 in
@@ -92,32 +83,23 @@ row_spelled s at (n ∷ ns) end b (size, w, h) =
       omega (arith, l, r.1, m),
     )
 
-spelled_row : (s : List ℕ) (at : ℕ) (ns rest : List ℕ) → AllBelow ns → drop at s ≡ spelled ns ++ rest → Row s at ns (at + length (spelled ns))
+spelled_row : (s : List ℕ) (at : ℕ) (ns rest : List ℕ) → AreNumbers ns → drop at s ≡ spelled ns ++ rest → StandInTurn s at ns (at + length (spelled ns))
 spelled_row s at [] rest b h = omega arith
 spelled_row s at (n ∷ ns) rest b h =
     let e : drop at s ≡ encode n ++ (spelled ns ++ rest) = h ∙ append_assoc (encode n) (spelled ns) rest in
     let d : drop (at + length (encode n)) s ≡ spelled ns ++ rest = sym (drop-drop (length (encode n)) at s) ∙ (ap (drop (length (encode n))) e ∙ drop_front (encode n) (spelled ns ++ rest)) in
     let l : at + length (encode n) + length (spelled ns) ≡ at + length (encode n ++ spelled ns) = simp length-append (omega arith) in
-    (length (encode n), subst (λ xs. Written xs n (length (encode n))) (sym e) (one_to_one.there n (spelled ns ++ rest) b.0), subst (Row s (at + length (encode n)) ns) l (spelled_row s (at + length (encode n)) ns rest b.1 d))
+    (length (encode n), subst (λ xs. Written xs n (length (encode n))) (sym e) (one_to_one.there n (spelled ns ++ rest) b.0), subst (StandInTurn s (at + length (encode n)) ns) l (spelled_row s (at + length (encode n)) ns rest b.1 d))
 
--- the same behind a flags byte
-abbrev pub LeafRow : List ℕ → ℕ → List ℕ → ℕ → Type 0
-LeafRow s at [] end = ⊥
-LeafRow s at (f ∷ ns) end = (drop at s ≡ f ∷ drop 1 (drop at s)) × Row s (at + 1) ns end
-
-abbrev pub BelowFlags : List ℕ → Type 0
-BelowFlags [] = ⊥
-BelowFlags (f ∷ ns) = AllBelow ns
-
-pub row_leaf : (s : List ℕ) (at : ℕ) (ns : List ℕ) (end : ℕ) → Bytes s → LeafRow s at ns end → (drop at s ≡ spelled_leaf ns ++ drop end s) × (end ≡ at + length (spelled_leaf ns))
+pub row_leaf : (s : List ℕ) (at : ℕ) (ns : List ℕ) (end : ℕ) → Bytes s → StandAsLeaf s at ns end → (drop at s ≡ spelled_leaf ns ++ drop end s) × (end ≡ at + length (spelled_leaf ns))
 row_leaf s at [] end b h = absurd h
 row_leaf s at (f ∷ ns) end b (e, h) =
     let r = row_spelled s (at + 1) ns end b h in
     (e ∙ ap (λ (xs : List ℕ). f ∷ xs) (drop-drop 1 at s ∙ r.0), omega (arith, r.1))
 
-pub leaf_row : (s : List ℕ) (at : ℕ) (ns rest : List ℕ) → BelowFlags ns → drop at s ≡ spelled_leaf ns ++ rest → LeafRow s at ns (at + length (spelled_leaf ns))
+pub leaf_row : (s : List ℕ) (at : ℕ) (ns rest : List ℕ) → AreLeafNumbers ns → drop at s ≡ spelled_leaf ns ++ rest → StandAsLeaf s at ns (at + length (spelled_leaf ns))
 leaf_row s at [] rest b h = absurd b
 leaf_row s at (f ∷ ns) rest b h =
     let d : drop 1 (drop at s) ≡ spelled ns ++ rest = ap (drop 1) h in
     let r = spelled_row s (at + 1) ns rest b (sym (drop-drop 1 at s) ∙ d) in
-    (h ∙ ap (λ (xs : List ℕ). f ∷ xs) (sym d), subst (Row s (at + 1) ns) (omega arith) r)
+    (h ∙ ap (λ (xs : List ℕ). f ∷ xs) (sym d), subst (StandInTurn s (at + 1) ns) (omega arith) r)
