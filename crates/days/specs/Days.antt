@@ -5,7 +5,7 @@ use Rattle.days.specs.declared.day_leaf.DayLeaf.{DayLeaf}
 use Rattle.days.specs.Calendar.{is_day_number}
 use Rattle.leaf.specs.Windows.{hull_of}
 use Rattle.days.specs.Leaves.{is_bound, is_window}
-use Rattle.days.specs.Reading.{leaf_at}
+use Rattle.days.specs.Layout.{Role, Written, day_layout}
 use Rattle.days.specs.Weekdays.{holds, is_set, next_day, is_on_grid}
 
 -- bounds that are days, minimum at most maximum, a set of weekdays
@@ -28,5 +28,8 @@ days = record {
   rule_covers = λ a b. holds a.weekdays b.weekdays;
   join = λ a b. record { bounds = hull_of nat_le a.bounds b.bounds; weekdays = a.weekdays };
   kind_byte = λ b. (b == 68);
-  reading = leaf_at;
+  Role = Role;
+  Written = Written;
+  Made = DayLeaf;
+  layout = λ b. day_layout;
 }

@@ -12,7 +12,7 @@ use Rattle.days.specs.Days.{days}
 use Rattle.days.specs.Grid.{absent, grid_day, next_grid, next_least, next_none}
 use Rattle.days.specs.Sets.{holds_self, holds_trans, holds_anti, holds_has}
 use Rattle.days.specs.Lawful.{lawful_parts, same_window, window_lawful}
-use Rattle.days.specs.Read.{well_read}
+use Rattle.days.specs.Laws.Layout.{layout_laws, written_lawful}
 
 total : (a b : ℕ) → nat_le a b ≡ false → nat_le b a ≡ true
 total a b h = le-leb b a (omega (arith, leb-false a b h))
@@ -74,5 +74,6 @@ days_laws = record {
   covers_trans = λ a b c p q r h i. holds_trans a.weekdays b.weekdays c.weekdays h i;
   covers_anti = λ a b p q h i. tied a b (holds_anti a.weekdays b.weekdays h i);
   covers_admits = λ a b v p q h g. grid_holds a.weekdays b.weekdays v h g;
-  well_read = well_read;
+  layouts = λ b. layout_laws;
+  written_lawful = λ b. written_lawful;
 }

@@ -5,6 +5,7 @@ pub mod Deciding
 pub mod Made
 pub mod Chains
 pub mod Slices
+pub mod Flags
 pub mod Writing
 pub mod Encodes
 pub mod Rows

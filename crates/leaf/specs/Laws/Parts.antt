@@ -5,7 +5,7 @@ use Rattle.std.proofs.Common.{sym, ap, subst, ◌∙◌, inl, inr}
 use Rattle.std.proofs.lemmas.Bool.{and_from, and_parts, true≢false}
 use Rattle.leaf.specs.Fields.{byte, number, Stands}
 use Rattle.leaf.specs.Numbers.{has_bit}
-use Rattle.leaf.specs.Plans.{Table, Plan, done, ask, either, then, field, head, optional, optional_fits, optional_made, repeat, all_numbers, fits_if, numbers_if, Makes}
+use Rattle.leaf.specs.Plans.{Table, Plan, done, ask, either, then, field, head, repeat, all_numbers, fits_if, numbers_if, Makes}
 use Rattle.leaf.specs.Windows.{written}
 use Rattle.leaf.specs.Layouts.{AreLeafNumbers, AreNumbers, StandAsLeaf, StandInTurn}
 use Rattle.leaf.specs.Laws.Rows.{both_below, row_join, row_parts}
@@ -40,28 +40,6 @@ module _ {Role : Type 0} (t : Table Role) where
           (a w.0, mid, u.makes s at w.0 mid c l, (b w.1, end, v.makes s mid w.1 end d k, (refl, refl)));
       below = λ w h. let (c, d) = and_parts (f w.0) (g w.1) h in both_below (ns w.0) (ms w.1) (u.below w.0 c) (v.below w.1 d);
     }
-
-  -- a part that is there exactly if it is to be
-  module _ {W A : Type 0} {p : Plan Role A} {ns : W → List ℕ} {f : W → Bool} {a : W → A} where
-    pub optional_part : (present : Bool) → Part p ns f a → Part (optional present p) (numbers_if ns) (optional_fits present f) (optional_made a)
-    optional_part present u = record { stood = stood present; makes = makes present; below = below present }
-      where
-        stood : (present : Bool) (s : List ℕ) (at : ℕ) (x : Option A) (end : ℕ) → Makes t s (optional present p) at x end → (o : Option W) × (optional_fits present f o ≡ true) × (optional_made a o ≡ x) × StandInTurn s at (numbers_if ns o) end
-        stood true s at x end (inl (e, (z, mid, m, (i, j)))) = let (w, c, n, r) = u.stood s at z mid m in (Some w, c, (λ τ. Some (n τ)) ∙ i, subst (StandInTurn s at (ns w)) j r)
-        stood true s at x end (inr (e, m)) = absurd (true≢false e)
-        stood false s at x end (inl (e, m)) = absurd (true≢false (sym e))
-        stood false s at x end (inr (e, (i, r))) = (None, refl, i, r)
-
-        makes : (present : Bool) (s : List ℕ) (at : ℕ) (o : Option W) (end : ℕ) → optional_fits present f o ≡ true → StandInTurn s at (numbers_if ns o) end → Makes t s (optional present p) at (optional_made a o) end
-        makes true s at None end h r = absurd (true≢false (sym h))
-        makes true s at (Some w) end h r = inl (refl, (a w, end, u.makes s at w end h r, (refl, refl)))
-        makes false s at None end h r = inr (refl, (refl, r))
-        makes false s at (Some w) end h r = absurd (true≢false (sym h))
-
-        below : (present : Bool) (o : Option W) → optional_fits present f o ≡ true → AreNumbers (numbers_if ns o)
-        below present None h = tt
-        below true (Some w) h = u.below w h
-        below false (Some w) h = absurd (true≢false (sym h))
 
   -- a count, and as many parts
   module _ {W A : Type 0} {p : Plan Role A} {ns : W → List ℕ} {f : W → Bool} {a : W → A} (u : Part p ns f a) where

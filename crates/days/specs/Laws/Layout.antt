@@ -1,16 +1,14 @@
--- What the layout of day leaves shows: what its fields make is what is written in them.
-use Rattle.std.specs.Prelude.{◌≡◌, ℕ, ◌+◌, ◌*◌, ◌^◌, ◌<◌, ◌≤◌, Bool, true, false, ◌&&◌, List, [], ◌∷◌, Some, None, Option, is_some, length, min, nat_lt, refl}
+-- The layout of day leaves shows its laws: what its fields make is what is written in them.
+use Rattle.std.specs.Prelude.{◌≡◌, ℕ, ◌+◌, ◌*◌, ◌^◌, ◌<◌, ◌≤◌, Bool, true, false, ◌&&◌, List, [], ◌∷◌, Some, None, Option, is_some, ⊤, refl}
 use Rattle.std.proofs.Common.{sym, ap, ◌∙◌, arith}
-use Rattle.std.proofs.lemmas.Bool.{and_parts, cond_both, ltb-true}
-use Rattle.leaf.specs.Kind.{Lawful, WellRead}
-use Rattle.leaf.specs.Layouts.{is_of_field}
-use Rattle.leaf.specs.Numbers.{bit_of, has_bit}
-use Rattle.leaf.specs.Plans.{field, fits_if}
+use Rattle.std.proofs.lemmas.Bool.{and_parts, cond_both, ltb-true, true≢false}
+use Rattle.leaf.specs.Kind.{Lawful}
+use Rattle.leaf.specs.Layouts.{LayoutLaws, is_of_field}
+use Rattle.leaf.specs.Plans.{done, field, fits_if, then}
 use Rattle.leaf.specs.Windows.{written}
 use Rattle.leaf.specs.Laws.Parts.{FlagLaws, Part, headed_below, headed_makes, headed_stood, number_part}
-use Rattle.faults.specs.Faults.{at_byte, refused}
-use Rattle.leaf.specs.Laws.Starts.{byte_past, from_end}
-use Rattle.leaf.specs.Laws.Judging.{Shown, well_read_so}
+use Rattle.leaf.specs.Laws.Fielded.{unfit_flags, unfit_in}
+use Rattle.leaf.specs.Laws.Flags.{unsigned}
 use Rattle.days.specs.declared.calendar.Date.{Date}
 use Rattle.days.specs.declared.day_leaf.DayLeaf.{DayLeaf}
 use Rattle.days.specs.Calendar.{day_number, day_of, is_date}
@@ -19,7 +17,8 @@ use Rattle.days.specs.Days.{days}
 use Rattle.days.specs.Lawful.{leaf_lawful}
 use Rattle.days.specs.Leaves.{is_bound, is_window, leaf_of}
 use Rattle.days.specs.Making.{numbered}
-use Rattle.days.specs.Reading.{Role, flags, year, month, day, weekdays, Written, date, date_numbers, day_layout, day_table, flags_of, is_day, leaf_at}
+use Rattle.days.specs.Grammar.{DayRefusals}
+use Rattle.days.specs.Layout.{Role, flags, year, month, day, weekdays, Written, date, date_numbers, day_layout, day_table, flags_of, is_day, leaf_plan}
 use Rattle.days.specs.Weekdays.{is_set}
 
 -- a date that there is has a number, and what has one is a date
@@ -48,25 +47,8 @@ set_below n h = grind arith
 sets : Part day_table (field weekdays) (λ n. n ∷ []) is_set (λ n. n)
 sets = number_part day_table weekdays refl set_below
 
--- the bits of flags
-flags_made : (f : ℕ) → nat_lt f 4 ≡ true → f ≡ bit_of (has_bit f 0) + 2 * bit_of (has_bit f 1)
-flags_made f h = by f (ltb-true f 4 h)
-  where
-    by : (f : ℕ) → f < 4 → f ≡ bit_of (has_bit f 0) + 2 * bit_of (has_bit f 1)
-    by f l = grind arith
-
-bits : (a b : Bool) → (nat_lt (bit_of a + 2 * bit_of b) 4 ≡ true) × (has_bit (bit_of a + 2 * bit_of b) 0 ≡ a) × (has_bit (bit_of a + 2 * bit_of b) 1 ≡ b)
-bits false false = (refl, refl, refl)
-bits false true = (refl, refl, refl)
-bits true false = (refl, refl, refl)
-bits true true = (refl, refl, refl)
-
 known : FlagLaws day_table flags date dates sets is_day flags_of leaf_of
-known = record {
-  shape = refl;
-  there = λ low high f g. let (k, p, q) = bits (is_some low) (is_some high) in (k, p, q, f, g);
-  back = λ n low high k p q f g. (flags_made n k ∙ (λ t. bit_of (p t) + 2 * bit_of (q t)), f, g);
-}
+known = unsigned day_table flags date sets is_day leaf_of refl dates (λ f. refl)
 
 own : (r : Role) → is_of_field (day_table.refusal r) ≡ true
 own flags = refl
@@ -93,8 +75,8 @@ fitting w f =
     let (c, d) = and_parts (fits_if is_day w.high) (is_set w.weekdays) b in
     (a, c, d)
 
-pub shows : Shown day_layout
-shows = record {
+pub layout_laws : LayoutLaws day_layout
+layout_laws = record {
   own = own;
   below = λ w f. headed_below day_table flags date dates sets is_day flags_of leaf_of known w.low w.high w.weekdays f;
   stood = λ s at m end h.
@@ -110,19 +92,38 @@ shows = record {
       λ i. record { low = l i; high = h i; weekdays = n i };
 }
 
-lawful : (w : Written) → day_layout.fits w ≡ true → is_window (written numbered w.low) (written numbered w.high) ≡ true → Lawful days (day_layout.made w)
-lawful w f t = let (a, b, set) = fitting w f in leaf_lawful (written numbered w.low) (written numbered w.high) w.weekdays (bounded w.low a) (bounded w.high b) t set
+pub written_lawful : (w : Written) → day_layout.fits w ≡ true → is_window (written numbered w.low) (written numbered w.high) ≡ true → Lawful days (day_layout.made w)
+written_lawful w f t = let (a, b, set) = fitting w f in leaf_lawful (written numbered w.low) (written numbered w.high) w.weekdays (bounded w.low a) (bounded w.high b) t set
   where
     bounded : (o : Option Date) → fits_if is_day o ≡ true → is_bound (written numbered o) ≡ true
     bounded None h = refl
     bounded (Some d) h = let n = numbered_is d h in ap is_bound n ∙ day_small d.year d.month d.day (day_number d.year d.month d.day) n
 
-pub well_read : (s : List ℕ) (at : ℕ) → WellRead days s at (leaf_at s at)
-well_read s at = well_read_so day_layout shows days lawful s at
+-- which fields give which refusal
+pub refusals : (s : List ℕ) (at : ℕ) → DayRefusals s at
+refusals s at = record {
+  four = unfit_flags day_table s flags date (λ w. then (field weekdays) (λ set. done (leaf_of w.minimum w.maximum set))) at 4 refl refl refl (λ n. (refl, λ _ _. (refl, λ _ _. (refl, λ _ _. tt)))) (λ w. ((refl, λ _ _. tt), λ _. tt)) four;
+  seven = unfit_in day_table s leaf_plan at (λ d. day d.0 d.1 d.2) 7 (λ _. refl) (λ _. refl) seven;
+  nine = unfit_in day_table s leaf_plan at (λ (_ : ⊤). weekdays) 9 (λ _. refl) (λ _. refl) nine;
+}
+  where
+    four : (q : Role) → 4 ≡ day_table.refusal q → q ≡ flags
+    four flags e = refl
+    four year e = absurd (omega (arith, e))
+    four month e = absurd (omega (arith, e))
+    four (day first y m) e = absurd (omega (arith, e))
+    four weekdays e = absurd (omega (arith, e))
 
--- a leaf that would start past the end
-leaf_past : (s : List ℕ) (i : ℕ) → length s ≤ i → leaf_at s i ≡ refused (at_byte 2 (length s))
-leaf_past s i h = rw (byte_past s i h) refl
+    seven : (q : Role) (n : ℕ) → 7 ≡ day_table.refusal q → day_table.fits q n ≡ false → (d : ℕ × ℕ × ℕ) × (q ≡ day d.0 d.1 d.2)
+    seven flags n e f = absurd (omega (arith, e))
+    seven year n e f = absurd (true≢false f)
+    seven month n e f = absurd (true≢false f)
+    seven (day first y m) n e f = ((first, y, m), refl)
+    seven weekdays n e f = absurd (omega (arith, e))
 
-pub leaf_from_end : (s : List ℕ) (i : ℕ) → leaf_at s (min i (length s)) ≡ leaf_at s i
-leaf_from_end = from_end leaf_at leaf_past
+    nine : (q : Role) (n : ℕ) → 9 ≡ day_table.refusal q → day_table.fits q n ≡ false → ⊤ × (q ≡ weekdays)
+    nine flags n e f = absurd (omega (arith, e))
+    nine year n e f = absurd (omega (arith, e))
+    nine month n e f = absurd (omega (arith, e))
+    nine (day first y m) n e f = absurd (omega (arith, e))
+    nine weekdays n e f = (tt, refl)

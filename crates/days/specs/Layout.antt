@@ -1,10 +1,9 @@
 -- How day leaves stand on a sheet: flags, year, month and day of each bound present, the weekday set.
-use Rattle.std.specs.Prelude.{ℕ, ◌+◌, ◌*◌, Bool, true, ◌&&◌, List, [], ◌∷◌, ◌++◌, Option, is_some, nat_lt}
-use Rattle.faults.specs.Faults.{Answer}
+use Rattle.std.specs.Prelude.{ℕ, Bool, true, false, ◌&&◌, List, [], ◌∷◌, ◌++◌, Option, is_some}
 use Rattle.leaf.specs.Fields.{Shape, byte, number}
-use Rattle.leaf.specs.Numbers.{bit_of}
+use Rattle.leaf.specs.Numbers.{are_flags, flags_made}
 use Rattle.leaf.specs.Plans.{Table, Plan, done, ask, then, field, head, fits_if, numbers_if}
-use Rattle.leaf.specs.Layouts.{Layout, reading}
+use Rattle.leaf.specs.Layouts.{Layout}
 use Rattle.leaf.specs.Windows.{written}
 use Rattle.days.specs.declared.calendar.Date.{Date}
 use Rattle.days.specs.declared.day_leaf.DayLeaf.{DayLeaf}
@@ -28,9 +27,9 @@ shape_of month = number
 shape_of (day first y m) = number
 shape_of weekdays = number
 
--- flags: bit 0 minimum present, bit 1 maximum present, no other; a day is judged after its three numbers
+-- a date has no sign; a day is judged after its three numbers
 abbrev pub fits_in : Role → ℕ → Bool
-fits_in flags f = nat_lt f 4
+fits_in flags f = are_flags false f
 fits_in year y = true
 fits_in month m = true
 fits_in (day first y m) d = is_some (day_of y m d)
@@ -54,7 +53,7 @@ named_by weekdays at = at
 abbrev pub day_table : Table Role
 day_table = record { shape = shape_of; fits = fits_in; refusal = refusal_in; named = named_by }
 
--- a date: year, month and day; it has no sign
+-- a date: year, month and day
 abbrev pub date : Bool → Plan Role (Option ℕ)
 date negative = ask year (λ at y. ask month (λ _ m. ask (day at y m) (λ _ d. done (day_of y m d))))
 
@@ -68,9 +67,8 @@ pub record Written : Type 0 where
   pub high : Option Date
   pub weekdays : ℕ
 
--- bit 0 a minimum is present, bit 1 a maximum is present
 abbrev pub flags_of : Option Date → Option Date → ℕ
-flags_of low high = bit_of (is_some low) + 2 * bit_of (is_some high)
+flags_of low high = flags_made (is_some low) (is_some high) false false
 
 abbrev pub date_numbers : Date → List ℕ
 date_numbers d = d.year ∷ d.month ∷ d.day ∷ []
@@ -88,6 +86,3 @@ day_layout = record {
   fits = λ w. fits_if is_day w.low && (fits_if is_day w.high && is_set w.weekdays);
   made = λ w. leaf_of (written numbered w.low) (written numbered w.high) w.weekdays;
 }
-
-abbrev pub leaf_at : List ℕ → ℕ → Answer DayLeaf
-leaf_at s at = reading day_layout s at
