@@ -69,6 +69,7 @@ days_laws = record {
   next_grid = λ a v w p q e. let n = next_grid a.weekdays v w e in (n.0, lt-leb w v n.1);
   next_least = λ a v w u p q e g h. le-leb w u (next_least a.weekdays v w u e g (leb-false u v h));
   next_none = λ a v u p q e g. le-leb u v (next_none a.weekdays v u e g);
+  blank_lawful = refl;
   joins = λ a b p q. joined a b p q;
   covers_refl = λ a b p q s. ap (λ w. holds a.weekdays w) (sym (one_rule a b s)) ∙ holds_self a.weekdays;
   covers_trans = λ a b c p q r h i. holds_trans a.weekdays b.weekdays c.weekdays h i;

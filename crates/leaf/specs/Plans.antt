@@ -1,5 +1,5 @@
 -- How a leaf stands on a sheet, stated once: a table of fields, and a plan, which says in what order they are due and what they make.
-use Rattle.std.specs.Prelude.{◌≡◌, ℕ, zero, suc, ◌+◌, Bool, true, false, cond, not, ◌&&◌, ◌⊎◌, List, [], ◌∷◌, ◌++◌, drop, Some, None, Option, is_some}
+use Rattle.std.specs.Prelude.{◌≡◌, ℕ, zero, suc, ◌+◌, Bool, true, false, cond, not, ◌&&◌, ◌⊎◌, List, [], ◌∷◌, ◌++◌, drop, Some, None, Option, ⊤}
 use Rattle.faults.specs.Faults.{Answer, found, refused, next, at_byte}
 use Rattle.leaf.specs.declared.bounds.Bounds.{Bounds}
 use Rattle.leaf.specs.Numbers.{has_bit}
@@ -20,6 +20,10 @@ pub data Plan (Role : Type 0) : Type 0 → Type 1 where
   ask : {A : Type 0} → Role → (ℕ → ℕ → Plan Role A) → Plan Role A
   either : {A : Type 0} → Bool → Plan Role A → Plan Role A → Plan Role A
   then : {A B : Type 0} → Plan Role A → (A → Plan Role B) → Plan Role B
+
+-- nothing
+abbrev pub nothing : {Role : Type 0} → Plan Role ⊤
+nothing = done tt
 
 -- a field alone
 abbrev pub field : {Role : Type 0} → Role → Plan Role ℕ

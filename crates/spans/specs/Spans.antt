@@ -1,34 +1,68 @@
 -- Windows of every day: one rule, and every day on its grid.
-use Rattle.std.specs.Prelude.{ℕ, ◌+◌, ◌^◌, Bool, true, cond, ◌&&◌, leb, List, Some, None, Ok, Err, Option, Result, ◌==◌, nat_le, nat_lt}
-use Rattle.faults.specs.Faults.{Answer, Refused, found, refused, at_byte, next, unplaced}
+use Rattle.std.specs.Prelude.{ℕ, ◌+◌, ◌^◌, Bool, true, false, cond, ◌&&◌, leb, List, [], ◌∷◌, ◌++◌, Some, None, Ok, Err, Option, Result, ⊤, is_some, ◌==◌, nat_lt}
+use Rattle.faults.specs.Faults.{Refused, unplaced}
+use Rattle.leaf.specs.Fields.{Shape, byte, number}
 use Rattle.leaf.specs.Kind.{Kind, ext_le, from, is_window_of, upto}
-use Rattle.leaf.specs.Numbers.{number_at}
-use Rattle.leaf.specs.Windows.{hull_of}
+use Rattle.leaf.specs.Layouts.{Layout}
+use Rattle.leaf.specs.Numbers.{are_flags, flags_made}
+use Rattle.leaf.specs.Plans.{Table, Plan, done, ask, then, head, nothing, fits_if, numbers_if}
+use Rattle.leaf.specs.Windows.{hull_of, written}
 use Rattle.spans.specs.declared.span.Span.{Span}
 
 abbrev pub is_day : ℕ → Bool
 is_day v = nat_lt v (2 ^ 32)
 
 abbrev pub is_bound : Option ℕ → Bool
-is_bound None = true
-is_bound (Some v) = is_day v
+is_bound = fits_if is_day
 
 abbrev pub following : ℕ → Option ℕ
 following v = cond (is_day (v + 1)) (Some (v + 1)) None
 
-abbrev pub day_at : List ℕ → ℕ → Answer ℕ
-day_at s at = next (number_at s at) (λ n e. cond (is_day n) (found n e) (refused (at_byte 7 at)))
-
 abbrev pub window : Option ℕ → Option ℕ → Span
 window x y = record { bounds = record { minimum = x; maximum = y } }
-
--- the minimum, then the maximum, which are judged last
-abbrev pub span_at : List ℕ → ℕ → Answer Span
-span_at s at = next (day_at s at) (λ low m. next (day_at s m) (λ high e. cond (nat_le low high) (found (window (Some low) (Some high)) e) (refused (at_byte 8 at))))
 
 -- the maker: refused 8 where the minimum is above the maximum
 abbrev pub made_of : Option ℕ → Option ℕ → Result Span Refused
 made_of x y = cond (is_window_of leb x y) (Ok (window x y)) (Err (unplaced 8))
+
+-- on a sheet: flags, and the number of each day that they name, below 2^32
+pub data Role : Type 0 where
+  flags : Role
+  day : Role
+
+abbrev pub shape_of : Role → Shape
+shape_of flags = byte
+shape_of day = number
+
+abbrev pub fits_in : Role → ℕ → Bool
+fits_in flags f = are_flags false f
+fits_in day n = is_day n
+
+abbrev pub refusal_in : Role → ℕ
+refusal_in flags = 4
+refusal_in day = 7
+
+abbrev pub span_table : Table Role
+span_table = record { shape = shape_of; fits = fits_in; refusal = refusal_in; named = λ r at. at }
+
+abbrev pub day_plan : Bool → Plan Role (Option ℕ)
+day_plan negative = ask day (λ _ n. done (Some n))
+
+-- a span as written
+pub record Written : Type 0 where
+  pub low : Option ℕ
+  pub high : Option ℕ
+
+abbrev pub span_layout : Layout Role Written Span Span
+span_layout = record {
+  table = span_table;
+  plan = then (head flags day_plan) (λ w. then nothing (λ r. done (window w.minimum w.maximum)));
+  is_window = λ a. is_window_of leb a.bounds.minimum a.bounds.maximum;
+  leaf = λ a. a;
+  numbers = λ w. flags_made (is_some w.low) (is_some w.high) false false ∷ ((numbers_if (λ n. n ∷ []) w.low ++ numbers_if (λ n. n ∷ []) w.high) ++ []);
+  fits = λ w. is_bound w.low && (is_bound w.high && true);
+  made = λ w. window (written (λ n. Some n) w.low) (written (λ n. Some n) w.high);
+}
 
 abbrev pub spans : Kind ℕ Span
 spans = record {
@@ -43,7 +77,11 @@ spans = record {
   rule_admits = λ a v. is_day v;
   next_on_grid = λ a v. following v;
   rule_covers = λ a b. true;
+  blank = window None None;
   join = λ a b. record { bounds = hull_of leb a.bounds b.bounds };
   kind_byte = λ b. (b == 83);
-  reading = span_at;
+  Role = Role;
+  Written = Written;
+  Made = Span;
+  layout = λ b. span_layout;
 }

@@ -1,5 +1,5 @@
 -- Parts of a plan as they are written: what a part makes is what stands there as written, and what stands there is made.
-use Rattle.std.specs.Prelude.{◌≡◌, ℕ, zero, suc, ◌+◌, ◌^◌, ◌<◌, Bool, true, false, ◌&&◌, List, [], ◌∷◌, ◌++◌, length, map, drop, Some, None, Option, is_some, refl}
+use Rattle.std.specs.Prelude.{◌≡◌, ℕ, zero, suc, ◌+◌, ◌^◌, ◌<◌, Bool, true, false, ◌&&◌, List, [], ◌∷◌, ◌++◌, length, map, drop, Some, None, Option, is_some, ⊤, refl}
 use Rattle.std.specs.List.{list_all}
 use Rattle.std.proofs.Common.{sym, ap, subst, ◌∙◌, inl, inr}
 use Rattle.std.proofs.lemmas.Bool.{and_from, and_parts, true≢false}
@@ -16,6 +16,10 @@ module _ {Role : Type 0} (t : Table Role) where
     pub stood : (s : List ℕ) (at : ℕ) (x : A) (end : ℕ) → Makes t s plan at x end → (w : W) × (fits w ≡ true) × (made w ≡ x) × StandInTurn s at (numbers w) end
     pub makes : (s : List ℕ) (at : ℕ) (w : W) (end : ℕ) → fits w ≡ true → StandInTurn s at (numbers w) end → Makes t s plan at (made w) end
     pub below : (w : W) → fits w ≡ true → AreNumbers (numbers w)
+
+  -- nothing
+  pub no_part : Part {W = ⊤} (done tt) (λ _. []) (λ _. true) (λ w. w)
+  no_part = record { stood = λ s at x end (e, h). (x, refl, refl, h); makes = λ s at w end f h. (refl, h); below = λ w f. tt }
 
   -- a number
   pub number_part : (r : Role) → t.shape r ≡ number → ((n : ℕ) → t.fits r n ≡ true → n < 2 ^ 64) → Part (field r) (λ n. n ∷ []) (t.fits r) (λ n. n)
