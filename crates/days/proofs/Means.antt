@@ -42,4 +42,4 @@ leaf_means low high set d =
 
 pub written_means : WrittenMeans
 unfolding WrittenMeans
-written_means w = leaf_means (value_of w.low) (value_of w.high) w.weekdays
+written_means w = leaf_means (value_of w.low) (value_of w.high) w.rest

@@ -5,7 +5,7 @@ use Rattle.days.specs.declared.day_leaf.DayLeaf.{DayLeaf}
 use Rattle.days.specs.Calendar.{is_day_number}
 use Rattle.leaf.specs.Windows.{hull_of}
 use Rattle.days.specs.Leaves.{is_bound, is_window, leaf_of}
-use Rattle.days.specs.Layout.{Role, Written, day_layout}
+use Rattle.days.specs.Layout.{Made, Role, Written, day_layout}
 use Rattle.days.specs.Weekdays.{holds, is_set, next_day, is_on_grid}
 
 -- bounds that are days, minimum at most maximum, a set of weekdays
@@ -31,6 +31,6 @@ days = record {
   kind_byte = λ b. (b == 68);
   Role = Role;
   Written = Written;
-  Made = DayLeaf;
+  Made = Made;
   layout = λ b. day_layout;
 }

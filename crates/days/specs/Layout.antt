@@ -1,15 +1,15 @@
 -- How day leaves stand on a sheet: flags, year, month and day of each bound present, the weekday set.
-use Rattle.std.specs.Prelude.{ℕ, Bool, true, false, ◌&&◌, List, [], ◌∷◌, ◌++◌, Option, is_some}
+use Rattle.std.specs.Prelude.{ℕ, Bool, true, false, List, [], ◌∷◌, Option, is_some}
 use Rattle.leaf.specs.Fields.{Shape, byte, number}
-use Rattle.leaf.specs.Numbers.{are_flags, flags_made}
-use Rattle.leaf.specs.Plans.{Table, Plan, done, ask, then, field, head, fits_if, numbers_if}
+use Rattle.leaf.specs.Numbers.{are_flags}
+use Rattle.leaf.specs.Plans.{Table, Plan, done, ask, field}
+use Rattle.leaf.specs.Headed.{Headed, MadeLeaf, WrittenLeaf, headed_layout, unsigned_flags}
 use Rattle.leaf.specs.Layouts.{Layout}
-use Rattle.leaf.specs.Windows.{written}
 use Rattle.days.specs.declared.calendar.Date.{Date}
 use Rattle.days.specs.declared.day_leaf.DayLeaf.{DayLeaf}
 use Rattle.days.specs.Calendar.{day_of, is_date}
 use Rattle.days.specs.Making.{numbered}
-use Rattle.days.specs.Leaves.{is_window, leaf_of}
+use Rattle.days.specs.Leaves.{is_window}
 use Rattle.days.specs.Weekdays.{is_set}
 
 -- the fields: the flags, a year, a month, a day of the month and of the year that stands at a byte, the weekday set
@@ -57,32 +57,35 @@ day_table = record { shape = shape_of; fits = fits_in; refusal = refusal_in; nam
 abbrev pub date : Bool → Plan Role (Option ℕ)
 date negative = ask year (λ at y. ask month (λ _ m. ask (day at y m) (λ _ d. done (day_of y m d))))
 
--- behind the flags come the dates that they name, then the weekday set
-abbrev pub leaf_plan : Plan Role DayLeaf
-leaf_plan = then (head flags date) (λ w. then (field weekdays) (λ set. done (leaf_of w.minimum w.maximum set)))
-
--- a leaf as written
-pub record Written : Type 0 where
-  pub low : Option Date
-  pub high : Option Date
-  pub weekdays : ℕ
-
-abbrev pub flags_of : Option Date → Option Date → ℕ
-flags_of low high = flags_made (is_some low) (is_some high) false false
-
+-- a date as written
 abbrev pub date_numbers : Date → List ℕ
 date_numbers d = d.year ∷ d.month ∷ d.day ∷ []
 
 abbrev pub is_day : Date → Bool
 is_day d = is_date d.year d.month d.day
 
-abbrev pub day_layout : Layout Role Written DayLeaf DayLeaf
-day_layout = record {
+-- behind the flags come the dates that they name, then the weekday set
+abbrev pub day_fields : Headed Role ℕ Date ℕ ℕ
+day_fields = record {
   table = day_table;
-  plan = leaf_plan;
-  is_window = λ a. is_window a.bounds.minimum a.bounds.maximum;
-  leaf = λ a. a;
-  numbers = λ w. flags_of w.low w.high ∷ ((numbers_if date_numbers w.low ++ numbers_if date_numbers w.high) ++ w.weekdays ∷ []);
-  fits = λ w. fits_if is_day w.low && (fits_if is_day w.high && is_set w.weekdays);
-  made = λ w. leaf_of (written numbered w.low) (written numbered w.high) w.weekdays;
+  flags = flags;
+  bound = date;
+  rest = field weekdays;
+  bound_numbers = date_numbers;
+  is_bound = is_day;
+  value = numbered;
+  flags_of = unsigned_flags;
+  rest_numbers = λ set. set ∷ [];
+  is_rest = is_set;
+  rest_value = λ set. set;
 }
+
+-- a leaf as written, and what its fields make
+abbrev pub Written : Type 0
+Written = WrittenLeaf Date ℕ
+
+abbrev pub Made : Type 0
+Made = MadeLeaf ℕ ℕ
+
+abbrev pub day_layout : Layout Role Written Made DayLeaf
+day_layout = headed_layout day_fields is_window (λ bounds set. record { bounds = bounds; weekdays = set })

@@ -28,4 +28,4 @@ value_of bound = written numbered bound
 
 -- a leaf as written admits exactly what its dates and weekdays mean
 unfoldable pub WrittenMeans : Type 0
-WrittenMeans = (w : Written) → Means (value_of w.low) (value_of w.high) w.weekdays (written_leaf day_layout w)
+WrittenMeans = (w : Written) → Means (value_of w.low) (value_of w.high) w.rest (written_leaf day_layout w)

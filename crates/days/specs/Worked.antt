@@ -17,7 +17,7 @@ pub record WorkedDays : Type 0 where
   pub of_2000 : made_of (Some (date 2000 2 29)) None 127 ≡ Ok (leaf_of (Some 59) None 127)
   pub of_2100 : made_of (Some (date 2100 2 29)) None 127 ≡ Err (unplaced 7)
   -- 6 May to 3 May 2024 on no weekday, behind the kind byte: 03 e8 0f 05 06 e8 0f 05 03 00; the maker sees the window first, a sheet the weekdays
-  pub bytes : bytes_of day_layout (record { low = Some (date 2024 5 6); high = Some (date 2024 5 3); weekdays = 0 }) ≡ 3 ∷ 232 ∷ 15 ∷ 5 ∷ 6 ∷ 232 ∷ 15 ∷ 5 ∷ 3 ∷ 0 ∷ []
+  pub bytes : bytes_of day_layout (record { low = Some (date 2024 5 6); high = Some (date 2024 5 3); rest = 0 }) ≡ 3 ∷ 232 ∷ 15 ∷ 5 ∷ 6 ∷ 232 ∷ 15 ∷ 5 ∷ 3 ∷ 0 ∷ []
   pub window_first : made_of (Some (date 2024 5 6)) (Some (date 2024 5 3)) 0 ≡ Err (unplaced 8)
   pub weekdays_first : leaf_at days (68 ∷ 3 ∷ 232 ∷ 15 ∷ 5 ∷ 6 ∷ 232 ∷ 15 ∷ 5 ∷ 3 ∷ 0 ∷ []) 1 ≡ refused (at_byte 9 10)
   -- with a weekday the window is seen last, and the flags are named

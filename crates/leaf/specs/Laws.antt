@@ -12,5 +12,6 @@ pub mod Rows
 pub mod Runs
 pub mod Fielded
 pub mod Parts
+pub mod Headed
 pub mod Judging
 pub mod Starts

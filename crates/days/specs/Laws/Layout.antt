@@ -3,22 +3,22 @@ use Rattle.std.specs.Prelude.{◌≡◌, ℕ, ◌+◌, ◌*◌, ◌^◌, ◌<◌
 use Rattle.std.proofs.Common.{sym, ap, ◌∙◌, arith}
 use Rattle.std.proofs.lemmas.Bool.{and_parts, cond_both, ltb-true, true≢false}
 use Rattle.leaf.specs.Kind.{Lawful}
-use Rattle.leaf.specs.Layouts.{LayoutLaws, is_of_field}
+use Rattle.leaf.specs.Layouts.{LayoutLaws, is_of_field, is_written_window, written_leaf}
 use Rattle.leaf.specs.Plans.{done, field, fits_if, then}
 use Rattle.leaf.specs.Windows.{written}
-use Rattle.leaf.specs.Laws.Parts.{FlagLaws, Part, headed_below, headed_makes, headed_stood, number_part}
+use Rattle.leaf.specs.Laws.Headed.{HeadedLaws, fitting, headed_laws}
+use Rattle.leaf.specs.Laws.Parts.{Part, number_part}
 use Rattle.leaf.specs.Laws.Fielded.{unfit_flags, unfit_in}
 use Rattle.leaf.specs.Laws.Flags.{unsigned}
 use Rattle.days.specs.declared.calendar.Date.{Date}
-use Rattle.days.specs.declared.day_leaf.DayLeaf.{DayLeaf}
 use Rattle.days.specs.Calendar.{day_number, day_of, is_date}
 use Rattle.days.specs.Dates.{dated, day_small, same_date, valid}
 use Rattle.days.specs.Days.{days}
 use Rattle.days.specs.Lawful.{leaf_lawful}
-use Rattle.days.specs.Leaves.{is_bound, is_window, leaf_of}
+use Rattle.days.specs.Leaves.{is_bound, is_window}
 use Rattle.days.specs.Making.{numbered}
 use Rattle.days.specs.Grammar.{DayRefusals}
-use Rattle.days.specs.Layout.{Role, flags, year, month, day, weekdays, Written, date, date_numbers, day_layout, day_table, flags_of, is_day, leaf_plan}
+use Rattle.days.specs.Layout.{Role, flags, year, month, day, weekdays, Written, date, date_numbers, day_fields, day_layout, day_table, is_day}
 use Rattle.days.specs.Weekdays.{is_set}
 
 -- a date that there is has a number, and what has one is a date
@@ -47,9 +47,6 @@ set_below n h = grind arith
 sets : Part day_table (field weekdays) (λ n. n ∷ []) is_set (λ n. n)
 sets = number_part day_table weekdays refl set_below
 
-known : FlagLaws day_table flags date dates sets is_day flags_of leaf_of
-known = unsigned day_table flags date sets is_day leaf_of refl dates (λ f. refl)
-
 own : (r : Role) → is_of_field (day_table.refusal r) ≡ true
 own flags = refl
 own year = refl
@@ -57,43 +54,29 @@ own month = refl
 own (day first y m) = refl
 own weekdays = refl
 
-none_some : {n : ℕ} → None ≡ Some n → ⊥
-none_some e = let q : ◌≡◌ {A = ℕ} 0 1 = cc in omega (arith, q)
-
-one_bound : (a b : Option Date) → fits_if is_day a ≡ true → fits_if is_day b ≡ true → written numbered a ≡ written numbered b → a ≡ b
-one_bound None None h g e = refl
-one_bound None (Some d) h g e = absurd (none_some (e ∙ numbered_is d g))
-one_bound (Some d) None h g e = absurd (none_some (sym e ∙ numbered_is d h))
-one_bound (Some d) (Some c) h g e =
+same_day : (d c : Date) → is_day d ≡ true → is_day c ≡ true → numbered d ≡ numbered c → d ≡ c
+same_day d c h g e =
     let n = numbered_is c g in
     let (y, m, k) = same_date d.year d.month d.day c.year c.month c.day (day_number c.year c.month c.day) (e ∙ n) n in
-    λ i. Some (record { year = y i; month = m i; day = k i })
+    λ i. record { year = y i; month = m i; day = k i }
 
-fitting : (w : Written) → day_layout.fits w ≡ true → (fits_if is_day w.low ≡ true) × (fits_if is_day w.high ≡ true) × (is_set w.weekdays ≡ true)
-fitting w f =
-    let (a, b) = and_parts (fits_if is_day w.low) (fits_if is_day w.high && is_set w.weekdays) f in
-    let (c, d) = and_parts (fits_if is_day w.high) (is_set w.weekdays) b in
-    (a, c, d)
-
-pub layout_laws : LayoutLaws day_layout
-layout_laws = record {
+field_laws : HeadedLaws day_fields (λ _. is_day)
+field_laws = record {
   own = own;
-  below = λ w f. headed_below day_table flags date dates sets is_day flags_of leaf_of known w.low w.high w.weekdays f;
-  stood = λ s at m end h.
-      let (low, high, set, f, e, r) = headed_stood day_table flags date dates sets is_day flags_of leaf_of known s at m end h in
-      (record { low = low; high = high; weekdays = set }, f, e, r);
-  makes = λ s at w end f r. headed_makes day_table flags date dates sets is_day flags_of leaf_of known s at w.low w.high w.weekdays end f r;
-  same = λ w v f g e.
-      let (a, b, _) = fitting w f in
-      let (c, d, _) = fitting v g in
-      let l = one_bound w.low v.low a c (ap (λ (x : DayLeaf). x.bounds.minimum) e) in
-      let h = one_bound w.high v.high b d (ap (λ (x : DayLeaf). x.bounds.maximum) e) in
-      let n = ap (λ (x : DayLeaf). x.weekdays) e in
-      λ i. record { low = l i; high = h i; weekdays = n i };
+  shape = refl;
+  flag = unsigned day_fields (λ f. refl) (λ low high. refl);
+  bounds = dates;
+  rest = sets;
+  valued = λ d h. (day_number d.year d.month d.day, numbered_is d h);
+  same_bound = same_day;
+  same_rest = λ n m h g e. e;
 }
 
-pub written_lawful : (w : Written) → day_layout.fits w ≡ true → is_window (written numbered w.low) (written numbered w.high) ≡ true → Lawful days (day_layout.made w)
-written_lawful w f t = let (a, b, set) = fitting w f in leaf_lawful (written numbered w.low) (written numbered w.high) w.weekdays (bounded w.low a) (bounded w.high b) t set
+pub layout_laws : LayoutLaws day_layout
+layout_laws = headed_laws day_fields field_laws is_window (λ bounds set. record { bounds = bounds; weekdays = set })
+
+pub written_lawful : (w : Written) → day_layout.fits w ≡ true → is_written_window day_layout w ≡ true → Lawful days (written_leaf day_layout w)
+written_lawful w f t = let (a, b, set) = fitting day_fields field_laws w f in leaf_lawful (written numbered w.low) (written numbered w.high) w.rest (bounded w.low a) (bounded w.high b) t set
   where
     bounded : (o : Option Date) → fits_if is_day o ≡ true → is_bound (written numbered o) ≡ true
     bounded None h = refl
@@ -102,9 +85,9 @@ written_lawful w f t = let (a, b, set) = fitting w f in leaf_lawful (written num
 -- which fields give which refusal
 pub refusals : (s : List ℕ) (at : ℕ) → DayRefusals s at
 refusals s at = record {
-  four = unfit_flags day_table s flags date (λ w. then (field weekdays) (λ set. done (leaf_of w.minimum w.maximum set))) at 4 refl refl refl (λ n. (refl, λ _ _. (refl, λ _ _. (refl, λ _ _. tt)))) (λ w. ((refl, λ _ _. tt), λ _. tt)) four;
-  seven = unfit_in day_table s leaf_plan at (λ d. day d.0 d.1 d.2) 7 (λ _. refl) (λ _. refl) seven;
-  nine = unfit_in day_table s leaf_plan at (λ (_ : ⊤). weekdays) 9 (λ _. refl) (λ _. refl) nine;
+  four = unfit_flags day_table s flags date (λ b. then (field weekdays) (λ set. done (record { bounds = b; rest = set }))) at 4 refl refl refl (λ n. (refl, λ _ _. (refl, λ _ _. (refl, λ _ _. tt)))) (λ w. ((refl, λ _ _. tt), λ _. tt)) four;
+  seven = unfit_in day_table s day_layout.plan at (λ d. day d.0 d.1 d.2) 7 (λ _. refl) (λ _. refl) seven;
+  nine = unfit_in day_table s day_layout.plan at (λ (_ : ⊤). weekdays) 9 (λ _. refl) (λ _. refl) nine;
 }
   where
     four : (q : Role) → 4 ≡ day_table.refusal q → q ≡ flags
