@@ -20,7 +20,7 @@ use Rattle.amounts.specs.Rules.{admitted, both_at_most, step}
 use Rattle.amounts.specs.Values.{incremented, is_amount, is_on_grid}
 use Rattle.amounts.specs.Makes.{lawful_leaf}
 use Rattle.amounts.specs.Nexts.{le_of, lt_of, next_grid, next_least, next_none, of_le, of_lt}
-use Rattle.amounts.specs.Read.{well_read}
+use Rattle.amounts.specs.Laws.Layout.{blank_lawful, layout_laws, written_lawful}
 use Rattle.amounts.specs.RulesLemmas.{admitted_means, admitted_step, both_parts, both_refl, both_total, both_trans, step_pos}
 
 le_total : (a b : ℤ) → int_le a b ≡ false → int_le b a ≡ true
@@ -185,10 +185,12 @@ amounts_laws = record {
   next_grid = λ a v w p q e. next_grid (step (required a)) v w (step_pos (required a)) q e;
   next_least = λ a v w u p q e g h. next_least (step (required a)) v w u (step_pos (required a)) q e g h;
   next_none = λ a v u p q e g. next_none (step (required a)) v u (step_pos (required a)) q e g;
+  blank_lawful = blank_lawful;
   joins = λ a b p q. joined a b p q;
   covers_refl = λ a b p q s. covers_refl a b (parts a p) (parts b q) s;
   covers_trans = λ a b c p q r h i. covers_trans a b c (parts a p) (parts c r) h i;
   covers_anti = λ a b p q h i. covers_anti a b (parts a p) (parts b q) h i;
   covers_admits = λ a b v p q h i. covers_admits a b v (parts a p) (parts b q) h i;
-  well_read = well_read;
+  layouts = λ b. layout_laws;
+  written_lawful = λ b. written_lawful;
 }

@@ -33,11 +33,11 @@ abbrev pub agrees : Bool → Bool → Bool
 agrees true b = b
 agrees false b = not b
 
-agrees_self : (b : Bool) → agrees b b ≡ true
+pub agrees_self : (b : Bool) → agrees b b ≡ true
 agrees_self true = refl
 agrees_self false = refl
 
-agrees_is : (a b : Bool) → agrees a b ≡ true → a ≡ b
+pub agrees_is : (a b : Bool) → agrees a b ≡ true → a ≡ b
 agrees_is true true h = refl
 agrees_is true false h = absurd (true≢false (sym h))
 agrees_is false true h = absurd (true≢false (sym h))

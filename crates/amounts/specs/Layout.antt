@@ -1,17 +1,19 @@
 -- How amount leaves stand on a sheet: flags, the magnitudes of the bounds present, the count of required divisors and each as numerator
 -- and denominator, then the barred ones likewise.
-use Rattle.std.specs.Prelude.{ℕ, ◌+◌, ◌*◌, ◌^◌, Bool, true, false, not, ◌&&◌, ◌||◌, List, [], ◌∷◌, ◌++◌, length, ℤ, pos, negsuc, Some, None, Option, is_some, unsigned_abs, nat_le, nat_lt}
+use Rattle.std.specs.Prelude.{ℕ, ◌^◌, Bool, true, ◌&&◌, List, [], ◌∷◌, ◌++◌, length, ℤ, Option, is_some, nat_le, nat_lt}
 use Rattle.divisors.specs.declared.fraction.Fraction.{Fraction}
 use Rattle.divisors.specs.declared.row.Row.{Row}
 use Rattle.divisors.specs.Rows.{fractions}
 use Rattle.divisors.specs.Written.{are_in_range}
-use Rattle.faults.specs.Faults.{Answer}
 use Rattle.leaf.specs.Fields.{Shape, byte, number}
-use Rattle.leaf.specs.Numbers.{bit_of, has_bit}
-use Rattle.leaf.specs.Plans.{Table, Plan, done, ask, then, field, head, repeat, all_numbers, numbers_if}
-use Rattle.leaf.specs.Layouts.{Layout, reading}
+use Rattle.leaf.specs.Headed.{Headed, MadeLeaf, WrittenLeaf, headed_layout, signed_flags}
+use Rattle.leaf.specs.Layouts.{Layout}
+use Rattle.leaf.specs.Numbers.{are_flags}
+use Rattle.leaf.specs.Plans.{Table, Plan, done, ask, then, field, repeat, all_numbers}
+use Rattle.amounts.specs.declared.amount.WrittenAmount.{WrittenAmount}
 use Rattle.amounts.specs.declared.amount_leaf.AmountLeaf.{AmountLeaf}
-use Rattle.amounts.specs.Leaves.{is_bound, is_window, leaf_of}
+use Rattle.amounts.specs.Leaves.{is_window, leaf_of}
+use Rattle.amounts.specs.Making.{amount_in}
 use Rattle.amounts.specs.Values.{amount_of}
 
 -- the fields: the flags, a bound's magnitude under its sign, a count of divisors, a numerator or denominator
@@ -27,16 +29,12 @@ shape_of (magnitude negative) = number
 shape_of count = number
 shape_of part = number
 
--- flags: bit 0 minimum present, bit 1 maximum present, bit 2 minimum negative, bit 3 maximum negative; no other bit, and no sign without its bound
-abbrev pub are_flags : ℕ → Bool
-are_flags f = nat_lt f 16 && ((has_bit f 0 || not (has_bit f 2)) && (has_bit f 1 || not (has_bit f 3)))
-
 -- 1 to 2^63 - 1
 abbrev pub is_part : ℕ → Bool
 is_part n = nat_lt 0 n && nat_lt n (2 ^ 63)
 
 abbrev pub fits_in : Role → ℕ → Bool
-fits_in flags f = are_flags f
+fits_in flags f = are_flags true f
 fits_in (magnitude negative) m = is_some (amount_of negative m)
 fits_in count n = nat_le n 6
 fits_in part n = is_part n
@@ -66,30 +64,12 @@ list = ask count (λ _ n. repeat divisor n)
 abbrev pub lists : Plan Role (List Fraction × List Fraction)
 lists = then list (λ ws. then list (λ us. done (ws, us)))
 
--- a leaf as written
-pub record Written : Type 0 where
-  pub low : Option ℤ
-  pub high : Option ℤ
-  pub required : List Fraction
-  pub barred : List Fraction
+-- a bound and a divisor as written
+abbrev pub is_written : WrittenAmount → Bool
+is_written w = is_some (amount_in w)
 
-abbrev pub leaf_plan : Plan Role Written
-leaf_plan = then (head flags amount) (λ w. then lists (λ p. done (record { low = w.minimum; high = w.maximum; required = p.0; barred = p.1 })))
-
--- what is written in the fields of a leaf
-abbrev pub is_negative : ℤ → Bool
-is_negative (pos m) = false
-is_negative (negsuc m) = true
-
-abbrev pub has_sign : Option ℤ → Bool
-has_sign None = false
-has_sign (Some z) = is_negative z
-
-abbrev pub flags_of : Option ℤ → Option ℤ → ℕ
-flags_of low high = bit_of (is_some low) + (2 * bit_of (is_some high) + (4 * bit_of (has_sign low) + 8 * bit_of (has_sign high)))
-
-abbrev pub bound_numbers : ℤ → List ℕ
-bound_numbers z = unsigned_abs z ∷ []
+abbrev pub sign_of : WrittenAmount → Bool
+sign_of w = w.negative
 
 abbrev pub divisor_numbers : Fraction → List ℕ
 divisor_numbers f = f.p ∷ f.q ∷ []
@@ -97,23 +77,35 @@ divisor_numbers f = f.p ∷ f.q ∷ []
 abbrev pub list_numbers : List Fraction → List ℕ
 list_numbers fs = length fs ∷ all_numbers divisor_numbers fs
 
--- amounts, and lists of at most six divisors of parts in range
+-- lists of at most six divisors of parts in range
 abbrev pub is_list : List Fraction → Bool
 is_list fs = are_in_range fs && nat_le (length fs) 6
 
-abbrev pub amount_layout : Layout Role Written Written AmountLeaf
-amount_layout = record {
+-- behind the flags come the magnitudes of the bounds that they name, then both lists
+abbrev pub amount_fields : Headed Role ℤ WrittenAmount (List Fraction × List Fraction) (List Fraction × List Fraction)
+amount_fields = record {
   table = amount_table;
-  plan = leaf_plan;
-  is_window = λ w. is_window w.low w.high;
-  leaf = λ w. leaf_of w.low w.high w.required w.barred;
-  numbers = λ w. flags_of w.low w.high ∷ ((numbers_if bound_numbers w.low ++ numbers_if bound_numbers w.high) ++ (list_numbers w.required ++ list_numbers w.barred));
-  fits = λ w. is_bound w.low && (is_bound w.high && (is_list w.required && is_list w.barred));
-  made = λ w. w;
+  flags = flags;
+  bound = amount;
+  rest = lists;
+  bound_numbers = λ w. w.magnitude ∷ [];
+  is_bound = is_written;
+  value = amount_in;
+  flags_of = signed_flags sign_of;
+  rest_numbers = λ p. list_numbers p.0 ++ list_numbers p.1;
+  is_rest = λ p. is_list p.0 && is_list p.1;
+  rest_value = λ p. p;
 }
 
-abbrev pub leaf_at : List ℕ → ℕ → Answer AmountLeaf
-leaf_at s at = reading amount_layout s at
+-- a leaf as written, and what its fields make
+abbrev pub Written : Type 0
+Written = WrittenLeaf WrittenAmount (List Fraction × List Fraction)
+
+abbrev pub Made : Type 0
+Made = MadeLeaf ℤ (List Fraction × List Fraction)
+
+abbrev pub amount_layout : Layout Role Written Made AmountLeaf
+amount_layout = headed_layout amount_fields is_window (λ bounds p. leaf_of bounds.minimum bounds.maximum p.0 p.1)
 
 -- what two rows hold
 abbrev pub both_lists : Row × Row → List Fraction × List Fraction
