@@ -3,7 +3,6 @@ pub mod Hulls
 pub mod Orders
 pub mod Deciding
 pub mod Made
-pub mod Chains
 pub mod Slices
 pub mod Flags
 pub mod Writing

@@ -1,5 +1,5 @@
 -- A layout: the one statement of how leaves stand on a sheet, and on which condition each answer of their reader comes.
-use Rattle.std.specs.Prelude.{◌≡◌, ℕ, ◌+◌, ◌<◌, ◌^◌, Bool, true, false, cond, not, ◌&&◌, ◌↔◌, ◌⊎◌, List, [], ◌∷◌, ◌++◌, length, drop, ◌==◌, nat_le, ⊤}
+use Rattle.std.specs.Prelude.{◌≡◌, ℕ, ◌+◌, ◌<◌, ◌≤◌, ◌^◌, Bool, true, false, cond, not, ◌&&◌, ◌↔◌, ◌⊎◌, List, [], ◌∷◌, ◌++◌, length, drop, ◌==◌, nat_le, ⊤}
 use Rattle.faults.specs.Faults.{Answer, found, refused, next, at_byte}
 use Rattle.leaf.specs.Encoding.{Written as NumberWritten, encode}
 use Rattle.leaf.specs.Fields.{byte}
@@ -86,6 +86,8 @@ module _ {Role Written Made L : Type 0} (y : Layout Role Written Made L) where
     -- what the fields make is a leaf as written whose numbers stand there, and such a leaf is made
     pub stood : (s : List ℕ) (at : ℕ) (m : Made) (end : ℕ) → Makes y.table s y.plan at m end → (w : Written) × (y.fits w ≡ true) × (y.made w ≡ m) × StandAsLeaf s at (y.numbers w) end
     pub makes : (s : List ℕ) (at : ℕ) (w : Written) (end : ℕ) → y.fits w ≡ true → StandAsLeaf s at (y.numbers w) end → Makes y.table s y.plan at (y.made w) end
+    -- past the end of a sheet a leaf is refused as at its end
+    pub past : (s : List ℕ) (at : ℕ) → length s ≤ at → leaf_under s at ≡ refused (at_byte 2 (length s))
     -- no two make the same
     pub same : (w v : Written) → y.fits w ≡ true → y.fits v ≡ true → y.made w ≡ y.made v → w ≡ v
 

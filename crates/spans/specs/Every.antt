@@ -1,15 +1,17 @@
 -- Windows of every day show the laws of a kind.
-use Rattle.std.specs.Prelude.{◌≡◌, ℕ, ◌+◌, ◌^◌, ◌<◌, ◌≤◌, Bool, true, false, ◌&&◌, leb, [], ◌∷◌, Some, None, Option, nat_le, refl}
+use Rattle.std.specs.Prelude.{◌≡◌, ℕ, ◌+◌, ◌^◌, ◌<◌, ◌≤◌, Bool, true, false, ◌&&◌, leb, [], ◌∷◌, Some, None, Option, ⊤, nat_le, refl}
 use Rattle.std.proofs.Common.{sym, ap, ◌∙◌, arith}
-use Rattle.std.proofs.lemmas.Bool.{and_from, and_parts, cond_both, le-leb, leb-false, leb-true, lt-leb, ltb-false, ltb-true}
-use Rattle.leaf.specs.Kind.{Joins, Laws, Lawful, is_value_window, ext_le, from, upto}
+use Rattle.std.proofs.lemmas.Bool.{and_from, cond_both, le-leb, leb-false, leb-true, lt-leb, ltb-false, ltb-true}
+use Rattle.leaf.specs.Kind.{Joins, Laws, Lawful, is_value_window, is_window_of, ext_le, from, upto}
 use Rattle.leaf.specs.Layouts.{LayoutLaws, is_of_field, is_written_window, written_leaf}
 use Rattle.leaf.specs.Windows.{written}
-use Rattle.leaf.specs.Laws.Flags.{unsigned, unsigned_flags}
+use Rattle.leaf.specs.Headed.{WrittenLeaf}
+use Rattle.leaf.specs.Laws.Flags.{unsigned}
+use Rattle.leaf.specs.Laws.Headed.{HeadedLaws, fitting, headed_laws}
 use Rattle.leaf.specs.Laws.Hulls.{hull_window, joins_hull}
-use Rattle.leaf.specs.Laws.Parts.{FlagLaws, Part, headed_below, headed_makes, headed_stood, no_part}
+use Rattle.leaf.specs.Laws.Parts.{Part, no_part}
 use Rattle.spans.specs.declared.span.Span.{Span}
-use Rattle.spans.specs.Spans.{Role, flags, day, Written, day_plan, following, is_bound, is_day, span_layout, span_table, spans, window}
+use Rattle.spans.specs.Spans.{Role, flags, day, day_plan, following, is_bound, is_day, span_fields, span_layout, span_table, spans}
 
 same_window : (x y : Option ℕ) → (is_bound x && (is_bound y && ext_le leb (from x) (upto y))) ≡ is_value_window spans x y
 same_window None None = refl
@@ -44,47 +46,35 @@ days negative = record {
   below = λ n f. (omega (arith, ltb-true n (2 ^ 32) f), tt);
 }
 
-abbrev flags_of : Option ℕ → Option ℕ → ℕ
-flags_of = unsigned_flags span_table flags day_plan (no_part span_table) is_day (λ x y r. window x y) refl days (λ f. refl)
-
-known : FlagLaws span_table flags day_plan days (no_part span_table) is_day flags_of (λ x y r. window x y)
-known = unsigned span_table flags day_plan (no_part span_table) is_day (λ x y r. window x y) refl days (λ f. refl)
-
 own : (r : Role) → is_of_field (span_table.refusal r) ≡ true
 own flags = refl
 own day = refl
 
-same_bound : (x y : Option ℕ) → written (λ n. Some n) x ≡ written (λ n. Some n) y → x ≡ y
-same_bound None None e = refl
-same_bound None (Some y) e = absurd (let z : ◌≡◌ {A = ℕ} 0 1 = cc in omega (arith, z))
-same_bound (Some x) None e = absurd (let z : ◌≡◌ {A = ℕ} 0 1 = cc in omega (arith, z))
-same_bound (Some x) (Some y) e = e
+field_laws : HeadedLaws span_fields (λ _. is_day)
+field_laws = record {
+  own = own;
+  shape = refl;
+  flag = unsigned span_fields (λ f. refl) (λ low high. refl);
+  bounds = days;
+  rest = no_part span_table;
+  valued = λ n h. (n, refl);
+  same_bound = λ n m h g e. let q : n ≡ m = cc in q;
+  same_rest = λ r s h g e. refl;
+}
 
 layout_laws : LayoutLaws span_layout
-layout_laws = record {
-  own = own;
-  below = λ w f. headed_below span_table flags day_plan days (no_part span_table) is_day flags_of (λ x y r. window x y) known w.low w.high tt f;
-  stood = λ s at m end h.
-      let (low, high, r, f, e, t) = headed_stood span_table flags day_plan days (no_part span_table) is_day flags_of (λ x y r. window x y) known s at m end h in
-      (record { low = low; high = high }, f, e, t);
-  makes = λ s at w end f r. headed_makes span_table flags day_plan days (no_part span_table) is_day flags_of (λ x y r. window x y) known s at w.low w.high tt end f r;
-  same = λ w v f g e.
-      let l = same_bound w.low v.low (ap (λ (a : Span). a.bounds.minimum) e) in
-      let h = same_bound w.high v.high (ap (λ (a : Span). a.bounds.maximum) e) in
-      λ i. record { low = l i; high = h i };
-}
+layout_laws = headed_laws span_fields field_laws (is_window_of leb) (λ bounds r. record { bounds = bounds })
 
 bounded : (o : Option ℕ) → is_bound o ≡ true → is_bound (written (λ n. Some n) o) ≡ true
 bounded None h = h
 bounded (Some n) h = h
 
-written_lawful : (w : Written) → span_layout.fits w ≡ true → is_written_window span_layout w ≡ true → Lawful spans (written_leaf span_layout w)
+written_lawful : (w : WrittenLeaf ℕ ⊤) → span_layout.fits w ≡ true → is_written_window span_layout w ≡ true → Lawful spans (written_leaf span_layout w)
 written_lawful w f t =
-    let (a, b) = and_parts (is_bound w.low) (is_bound w.high && true) f in
-    let (c, _) = and_parts (is_bound w.high) true b in
+    let (a, b, c) = fitting span_fields field_laws w f in
     let x = written (λ n. Some n) w.low in
     let y = written (λ n. Some n) w.high in
-    and_from (is_bound x) (is_bound y && ext_le leb (from x) (upto y)) (bounded w.low a) (and_from (is_bound y) (ext_le leb (from x) (upto y)) (bounded w.high c) t)
+    and_from (is_bound x) (is_bound y && ext_le leb (from x) (upto y)) (bounded w.low a) (and_from (is_bound y) (ext_le leb (from x) (upto y)) (bounded w.high b) t)
 
 total : (a b : ℕ) → nat_le a b ≡ false → nat_le b a ≡ true
 total a b h = le-leb b a (omega (arith, leb-false a b h))

@@ -1,12 +1,13 @@
 -- Windows of every day: one rule, and every day on its grid.
-use Rattle.std.specs.Prelude.{ℕ, ◌+◌, ◌^◌, Bool, true, false, cond, ◌&&◌, leb, List, [], ◌∷◌, ◌++◌, Some, None, Ok, Err, Option, Result, ⊤, is_some, ◌==◌, nat_lt}
+use Rattle.std.specs.Prelude.{ℕ, ◌+◌, ◌^◌, Bool, true, false, cond, ◌&&◌, leb, List, [], ◌∷◌, Some, None, Ok, Err, Option, Result, ⊤, ◌==◌, nat_lt}
 use Rattle.faults.specs.Faults.{Refused, unplaced}
 use Rattle.leaf.specs.Fields.{Shape, byte, number}
 use Rattle.leaf.specs.Kind.{Kind, ext_le, from, is_window_of, upto}
+use Rattle.leaf.specs.Headed.{Headed, MadeLeaf, WrittenLeaf, headed_layout, unsigned_flags}
 use Rattle.leaf.specs.Layouts.{Layout}
-use Rattle.leaf.specs.Numbers.{are_flags, flags_made}
-use Rattle.leaf.specs.Plans.{Table, Plan, done, ask, then, head, nothing, fits_if, numbers_if}
-use Rattle.leaf.specs.Windows.{hull_of, written}
+use Rattle.leaf.specs.Numbers.{are_flags}
+use Rattle.leaf.specs.Plans.{Table, Plan, done, ask, nothing, fits_if}
+use Rattle.leaf.specs.Windows.{hull_of}
 use Rattle.spans.specs.declared.span.Span.{Span}
 
 abbrev pub is_day : ℕ → Bool
@@ -48,21 +49,23 @@ span_table = record { shape = shape_of; fits = fits_in; refusal = refusal_in; na
 abbrev pub day_plan : Bool → Plan Role (Option ℕ)
 day_plan negative = ask day (λ _ n. done (Some n))
 
--- a span as written
-pub record Written : Type 0 where
-  pub low : Option ℕ
-  pub high : Option ℕ
-
-abbrev pub span_layout : Layout Role Written Span Span
-span_layout = record {
+abbrev pub span_fields : Headed Role ℕ ℕ ⊤ ⊤
+span_fields = record {
   table = span_table;
-  plan = then (head flags day_plan) (λ w. then nothing (λ r. done (window w.minimum w.maximum)));
-  is_window = λ a. is_window_of leb a.bounds.minimum a.bounds.maximum;
-  leaf = λ a. a;
-  numbers = λ w. flags_made (is_some w.low) (is_some w.high) false false ∷ ((numbers_if (λ n. n ∷ []) w.low ++ numbers_if (λ n. n ∷ []) w.high) ++ []);
-  fits = λ w. is_bound w.low && (is_bound w.high && true);
-  made = λ w. window (written (λ n. Some n) w.low) (written (λ n. Some n) w.high);
+  flags = flags;
+  bound = day_plan;
+  rest = nothing;
+  bound_numbers = λ n. n ∷ [];
+  is_bound = is_day;
+  value = λ n. Some n;
+  flags_of = unsigned_flags;
+  rest_numbers = λ r. [];
+  is_rest = λ r. true;
+  rest_value = λ r. r;
 }
+
+abbrev pub span_layout : Layout Role (WrittenLeaf ℕ ⊤) (MadeLeaf ℕ ⊤) Span
+span_layout = headed_layout span_fields (is_window_of leb) (λ bounds r. record { bounds = bounds })
 
 abbrev pub spans : Kind ℕ Span
 spans = record {
@@ -81,7 +84,7 @@ spans = record {
   join = λ a b. record { bounds = hull_of leb a.bounds b.bounds };
   kind_byte = λ b. (b == 83);
   Role = Role;
-  Written = Written;
-  Made = Span;
+  Written = WrittenLeaf ℕ ⊤;
+  Made = MadeLeaf ℕ ⊤;
   layout = λ b. span_layout;
 }

@@ -3,7 +3,7 @@ use Rattle.std.specs.Prelude.{◌≡◌, ℕ, ◌+◌, Bool, true, ◌&&◌, Lis
 use Rattle.std.proofs.Common.{sym, ap, subst, ◌∙◌, inl, inr, arith}
 use Rattle.std.proofs.lemmas.Bool.{and_from, and_parts}
 use Rattle.leaf.specs.declared.bounds.Bounds.{Bounds}
-use Rattle.leaf.specs.Fields.{byte}
+use Rattle.leaf.specs.Fields.{byte, shape_at}
 use Rattle.leaf.specs.Headed.{Headed, MadeLeaf, WrittenLeaf, headed_fits, headed_layout, headed_made, headed_numbers, headed_plan}
 use Rattle.leaf.specs.Layouts.{AreLeafNumbers, AreNumbers, LayoutLaws, StandAsLeaf, StandInTurn, is_of_field}
 use Rattle.leaf.specs.Numbers.{has_bit}
@@ -12,6 +12,7 @@ use Rattle.leaf.specs.Windows.{written}
 use Rattle.leaf.specs.Laws.Fielded.{bounds_made, byte_made, byte_makes}
 use Rattle.leaf.specs.Laws.Parts.{Part}
 use Rattle.leaf.specs.Laws.Rows.{both_below, row_join, row_parts}
+use Rattle.leaf.specs.Laws.Starts.{byte_past}
 
 module _ {Role V W X R : Type 0} (h : Headed Role V W X R) where
   -- flags are those of their bounds, and the bounds that are written are those that their flags name; fits: under a sign
@@ -122,4 +123,11 @@ module _ {Role V W X R : Type 0} (h : Headed Role V W X R) where
         λ i. record { low = low i; high = high i; rest = rest i }
 
     pub headed_laws : {L : Type 0} (is_window : Option V → Option V → Bool) (leaf : Bounds V → X → L) → LayoutLaws (headed_layout h is_window leaf)
-    headed_laws is_window leaf = record { own = k.own; below = below; stood = stood; makes = makes; same = same }
+    headed_laws is_window leaf = record {
+      own = k.own;
+      below = below;
+      stood = stood;
+      makes = makes;
+      past = λ s at g. let q = ap (λ t. shape_at t s at) k.shape ∙ byte_past s at g in rw q refl;
+      same = same;
+    }

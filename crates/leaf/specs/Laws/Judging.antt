@@ -10,6 +10,7 @@ use Rattle.leaf.specs.Plans.{made_at, Makes, Reached, EndsEarly, BadNumber, Unfi
 use Rattle.leaf.specs.Layouts.{AreLeafNumbers, Layout, LayoutLaws, LeafJudged, LeafStands, OneAnswer, StandAsLeaf, StandInTurn, bytes_of, is_of_field, is_written_window, leaf_under, no_layout, written_leaf}
 use Rattle.leaf.specs.Laws.Writing.{found_refused}
 use Rattle.leaf.specs.Laws.Rows.{row_leaf, leaf_row, drop_front, written_within}
+use Rattle.leaf.specs.Laws.Starts.{byte_past}
 use Rattle.leaf.specs.Laws.Runs.{Halts, early, bad, unfit, Says, answers, says}
 
 module _ {Role W M L : Type 0} (y : Layout Role W M L) where
@@ -232,5 +233,6 @@ no_layout_laws blank = record {
   below = λ w f. absurd w;
   stood = λ s at m end (n, size, w, h). absurd (true≢false (sym w.fits));
   makes = λ s at w end f r. absurd w;
+  past = λ s at h. rw (byte_past s at h) refl;
   same = λ w v f g e. absurd w;
 }
