@@ -5,7 +5,7 @@ use Rattle.std.proofs.lemmas.Bool.{and_from, and_parts, cond_both, cond-true, le
 use Rattle.divisors.specs.declared.fraction.Fraction.{Fraction}
 use Rattle.divisors.specs.Fractions.{in_range}
 use Rattle.divisors.specs.Written.{are_in_range, refusal_of}
-use Rattle.faults.specs.Faults.{Answer, found, refused, at_byte}
+use Rattle.faults.specs.Faults.{Answer, found, refused, at_byte, unplaced}
 use Rattle.leaf.specs.Numbers.{number_at}
 use Rattle.leaf.specs.Reading.{byte_at}
 use Rattle.leaf.specs.Kind.{is_bound}
@@ -105,7 +105,8 @@ list_end s i =
 -- nothing is refused of a list that was read
 pub list_taken : (ws : List Fraction) → are_in_range ws ≡ true → length ws ≤ 6 → refusal_of ws ≡ None
 list_taken ws h l =
-    cond-true (are_in_range ws) (cond (nat_le (length ws) 6) None (Some 6)) (Some 5) h ∙ cond-true (nat_le (length ws) 6) None (Some 6) (le-leb (length ws) 6 l)
+    cond-true (are_in_range ws) (cond (nat_le (length ws) 6) None (Some (unplaced 6))) (Some (unplaced 5)) h
+    ∙ cond-true (nat_le (length ws) 6) None (Some (unplaced 6)) (le-leb (length ws) 6 l)
 
 abbrev pub Lists : List ℕ → ℕ → Answer (List Fraction × List Fraction) → Type 0
 Lists s i (found p e) = (are_in_range p.0 ≡ true) × (length p.0 ≤ 6) × (are_in_range p.1 ≡ true) × (length p.1 ≤ 6) × (i < e) × (e ≤ length s)

@@ -1,12 +1,13 @@
 ghost use Rattle.divisors.specs.Laws.{WorkedFolds};
 ghost use Rattle.divisors.specs.Rows.{fractions, is_folded};
-ghost use Rattle.divisors.specs.Written.{FoldOf, refusal_of, refused};
+ghost use Rattle.divisors.specs.Written.{FoldOf, refusal_of};
+ghost use Rattle.faults.specs.Faults.{refused_with};
 ghost use Rattle.std.specs.Prelude.{◌≡◌, true, false, IfOk, MatchOption, OnOk};
 
 use crate::fraction::Fraction;
-use crate::refusal::Refusal;
 use crate::row::Row;
 use crate::written::{check_list, folded_row, is_folded};
+use faults::Fault;
 
 // A folded list of required divisors.
 #[derive(Clone, Copy)]
@@ -17,8 +18,8 @@ pub struct Folded {
 
 impl Folded {
     // The folded list of divisors as written; refusal 5 where a part is out of range, else 6 where there are more than six.
-    pub fn over_integers(ws: &[Fraction]) -> Result<Folded, Refusal>
-        ensures refuses { refused result ≡ refusal_of ws.now }
+    pub fn over_integers(ws: &[Fraction]) -> Result<Folded, Fault>
+        ensures refuses { refused_with result ≡ refusal_of ws.now }
         ensures folds { IfOk result (λ f. FoldOf ws.now (fractions f.row)) }
         ensures worked { OnOk result (WorkedFolds) }
     {

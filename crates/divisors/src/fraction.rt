@@ -1,10 +1,10 @@
 ghost use Rattle.divisors.specs.Fractions.{BySize, LowestTerms, divides, in_range, is_multiple, join_of, lower, reduce_of, same, strip_by};
 ghost use Rattle.divisors.specs.Laws.{MultiplesMean};
-ghost use Rattle.divisors.specs.Written.{refused};
+ghost use Rattle.faults.specs.Faults.{refused_with, unplaced};
 ghost use Rattle.std.specs.Prelude.{◌≡◌, true, not, ◌&&◌, IfOk, if◌then◌else◌, Some, None, unsigned_abs};
 
-use crate::refusal::Refusal;
 use crate::whole::{LARGEST, gcd, is_multiple, lcm, order, stripped};
+use faults::{Fault, Refusal};
 use std::cmp::Ordering;
 
 // A fraction p/q, as written or in lowest terms; laid out as in C, for callers there.
@@ -17,12 +17,12 @@ pub struct Fraction {
 
 impl Fraction {
     // The fraction in lowest terms; refusal 5 where a part is 0 or above 2^63 - 1.
-    pub fn reduced(self) -> Result<Fraction, Refusal>
-        ensures refuses { refused result ≡ (if in_range self then None else Some 5) }
+    pub fn reduced(self) -> Result<Fraction, Fault>
+        ensures refuses { refused_with result ≡ (if in_range self then None else Some (unplaced 5)) }
         ensures reduces { IfOk result (λ f. LowestTerms self f) }
     {
         if !self.is_in_range() {
-            return Err(Refusal::OutOfRange);
+            return Err(Fault::unplaced(Refusal::BadPart));
         }
         Ok(self.lowest_terms())
     }

@@ -3,11 +3,12 @@ ghost use Rattle.divisors.specs.Fractions.{is_multiple};
 ghost use Rattle.divisors.specs.Laws.{BarredLaws, OrderLaws, RequiredLaws};
 ghost use Rattle.divisors.specs.Lists.{at_most, every, sole_of, some, tidy_of};
 ghost use Rattle.divisors.specs.Rows.{fractions, padded};
-ghost use Rattle.divisors.specs.Written.{lowest_above, refused};
+ghost use Rattle.divisors.specs.Written.{lowest_above};
+ghost use Rattle.faults.specs.Faults.{refused_with, unplaced};
 ghost use Rattle.std.specs.Prelude.{◌≡◌, ◌≤◌, true, [], ◌∷◌, ◌++◌, length, if◌then◌else◌, nat_lt, OnErr, OnOk, unsigned_abs};
 
 use crate::fraction::Fraction;
-use crate::refusal::Refusal;
+use faults::{Fault, Refusal};
 use std::cmp::Ordering;
 
 // The places of a row.
@@ -53,14 +54,14 @@ impl Row {
 
     // `f` behind the others; refusal 6, and nothing changed, where six are held.
     #[tactic(auto, using(crate::proofs::Padded::padded_more))]
-    pub fn push(&mut self, f: Fraction) -> Result<(), Refusal>
-        ensures refuses { refused result ≡ (if nat_lt (length (fractions self.old)) 6 then None else Some 6) }
+    pub fn push(&mut self, f: Fraction) -> Result<(), Fault>
+        ensures refuses { refused_with result ≡ (if nat_lt (length (fractions self.old)) 6 then None else Some (unplaced 6)) }
         ensures pushes { OnOk result (fractions self.new ≡ fractions self.old ++ f ∷ []) }
         ensures padded { padded self.old ≡ true → padded self.new ≡ true }
         ensures kept { OnErr result (self.new ≡ self.old) }
     {
         if self.count >= PLACES {
-            return Err(Refusal::TooMany);
+            return Err(Fault::unplaced(Refusal::ManyDivisors));
         }
         self.items[self.count] = f;
         self.count += 1;

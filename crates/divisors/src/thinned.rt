@@ -1,11 +1,12 @@
 ghost use Rattle.divisors.specs.Rows.{fractions, is_thinned};
-ghost use Rattle.divisors.specs.Written.{ThinOf, refusal_of, refused};
+ghost use Rattle.divisors.specs.Written.{ThinOf, refusal_of};
+ghost use Rattle.faults.specs.Faults.{refused_with};
 ghost use Rattle.std.specs.Prelude.{◌≡◌, true, false, IfOk, MatchOption};
 
 use crate::fraction::Fraction;
-use crate::refusal::Refusal;
 use crate::row::Row;
 use crate::written::{check_list, is_thinned, thinned_row};
+use faults::Fault;
 
 // A thinned list of barred divisors. Not one generic type with `Folded`: a trait, two impls of it and two aliases would be longer than
 // `from_row`, `row` and the call of `check_list`, which are all that they share.
@@ -17,8 +18,8 @@ pub struct Thinned {
 
 impl Thinned {
     // The thinned list of divisors as written; refusal 5 where a part is out of range, else 6 where there are more than six.
-    pub fn undivided(ws: &[Fraction]) -> Result<Thinned, Refusal>
-        ensures refuses { refused result ≡ refusal_of ws.now }
+    pub fn undivided(ws: &[Fraction]) -> Result<Thinned, Fault>
+        ensures refuses { refused_with result ≡ refusal_of ws.now }
         ensures thins { IfOk result (λ f. ThinOf ws.now (fractions f.row)) }
     {
         check_list(ws)?;

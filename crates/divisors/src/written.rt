@@ -1,12 +1,13 @@
 ghost use Rattle.std.specs.Prelude.{◌≡◌, ◌≤◌, true, length};
 ghost use Rattle.divisors.specs.Laws.{WorkedFolds};
 ghost use Rattle.divisors.specs.Rows.{fractions, is_folded, is_thinned};
-ghost use Rattle.divisors.specs.Written.{FoldOf, ThinOf, are_in_range, refusal_of, refusal_of_both, refused};
+ghost use Rattle.divisors.specs.Written.{FoldOf, ThinOf, are_in_range, refusal_of, refusal_of_both};
+ghost use Rattle.faults.specs.Faults.{refused_with};
 
 use crate::fraction::Fraction;
-use crate::refusal::Refusal;
 use crate::row::{PLACES, Row};
 use crate::working::Working;
+use faults::{Fault, Refusal};
 
 // Whether each numerator and denominator is from 1 to 2^63 - 1.
 fn all_in_range(ws: &[Fraction]) -> bool
@@ -16,21 +17,21 @@ fn all_in_range(ws: &[Fraction]) -> bool
 }
 
 // What is refused of required and barred divisors as written: 5 of either list before 6 of either.
-pub fn check(required: &[Fraction], barred: &[Fraction]) -> Result<(), Refusal>
-    ensures { refused result ≡ refusal_of_both required.now barred.now }
+pub fn check(required: &[Fraction], barred: &[Fraction]) -> Result<(), Fault>
+    ensures { refused_with result ≡ refusal_of_both required.now barred.now }
 {
     if !all_in_range(required) || !all_in_range(barred) {
-        return Err(Refusal::OutOfRange);
+        return Err(Fault::unplaced(Refusal::BadPart));
     }
     if required.len() > PLACES || barred.len() > PLACES {
-        return Err(Refusal::TooMany);
+        return Err(Fault::unplaced(Refusal::ManyDivisors));
     }
     Ok(())
 }
 
 // What is refused of one list of divisors as written.
-pub(crate) fn check_list(ws: &[Fraction]) -> Result<(), Refusal>
-    ensures { refused result ≡ refusal_of ws.now }
+pub(crate) fn check_list(ws: &[Fraction]) -> Result<(), Fault>
+    ensures { refused_with result ≡ refusal_of ws.now }
 {
     check(ws, &[])
 }

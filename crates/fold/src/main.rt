@@ -73,8 +73,8 @@ mod tests {
         let Err(six) = divisors::check(&seven, &seven) else {
             return Err(Fail::new("taken"));
         };
-        assert!(rt; five.number() == 5);
-        assert!(rt; six.number() == 6);
+        assert!(rt; five.refusal.number() == 5);
+        assert!(rt; six.refusal.number() == 6);
         Ok(())
     }
 }
