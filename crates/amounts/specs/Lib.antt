@@ -13,8 +13,6 @@ pub mod Makes
 pub mod Means
 pub mod Nexts
 pub mod RulesLemmas
-pub mod Rows
 pub mod Read
 pub mod Endings
 pub mod InRange
-pub mod Lengths

@@ -1,12 +1,12 @@
 -- From divisors as written to the lists that are kept, and what is refused.
-use Rattle.std.specs.Prelude.{◌≡◌, ℕ, Bool, cond, ◌&&◌, ◌↔◌, List, map, length, ℤ, Some, None, filter, Option, nat_le, nat_lt}
+use Rattle.std.specs.Prelude.{◌≡◌, ℕ, Bool, true, cond, ◌&&◌, ◌↔◌, Contains, List, map, length, ℤ, Some, None, filter, Option, nat_le, nat_lt}
 use Rattle.std.specs.List.{AllByRecursion}
 use Rattle.faults.specs.Faults.{Refused, unplaced}
 use Rattle.divisors.specs.declared.fraction.Fraction.{Fraction}
 use Rattle.divisors.specs.Fractions.{MultipleOf, in_range, reduce_of}
-use Rattle.divisors.specs.Lists.{every, tidy_of}
+use Rattle.divisors.specs.Lists.{Tidies, ascends, every, tidy_of}
 use Rattle.divisors.specs.Folding.{FoldsTo, NoJoin, NoStrip, fold_of}
-use Rattle.divisors.specs.Dividing.{thin_of}
+use Rattle.divisors.specs.Dividing.{Divides, thin_of}
 
 abbrev pub are_in_range : List Fraction → Bool
 are_in_range ws = every in_range ws
@@ -48,8 +48,11 @@ Spares xs v = AllByRecursion (λ f. MultipleOf f v → ⊥) xs
 
 -- xs is the folded list of the divisors ws as written
 pub record FoldOf (ws xs : List Fraction) : Type 0 where
-  -- it is what the steps give, and they end with it
+  -- those of which not every integer is a multiple are made ascending, and the steps end with xs
+  pub filled : Tidies (lowest_above 1 ws) (over_integers ws)
   pub steps : FoldsTo (over_integers ws) xs
+  -- nothing is left to do: it ascends, no pair joins, and none strips another
+  pub rising : ascends xs ≡ true
   pub joinless : NoJoin xs
   pub stripless : NoStrip xs
   -- the same, computed
@@ -57,8 +60,17 @@ pub record FoldOf (ws xs : List Fraction) : Type 0 where
   -- it admits exactly the integers that the written divisors admit
   pub admits : (v : ℤ) → (Admits xs v) ↔ (Admits ws v)
 
+-- an undivided fraction of a list: no other of the list divides it
+pub record IsUndivided (ws : List Fraction) (x : Fraction) : Type 0 where
+  pub member : Contains ws x
+  pub undivided : (y : Fraction) → Contains ws y → Divides y x → y ≡ x
+
 -- xs is the thinned list of the divisors ws as written
 pub record ThinOf (ws xs : List Fraction) : Type 0 where
+  -- it ascends, and holds those of the divisors in lowest terms that no other divides
+  pub rising : ascends xs ≡ true
+  pub members : (x : Fraction) → (Contains xs x) ↔ IsUndivided (map reduce_of ws) x
+  -- the same, computed
   pub value : xs ≡ barred_of ws
   -- it bars exactly the integers that the written divisors bar
   pub spares : (v : ℤ) → (Spares xs v) ↔ (Spares ws v)

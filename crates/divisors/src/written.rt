@@ -16,7 +16,9 @@ fn all_in_range(ws: &[Fraction]) -> bool
     ws.iter().all(|w| w.is_in_range())
 }
 
-// What is refused of required and barred divisors as written: 5 of either list before 6 of either.
+/// Looks at required and barred divisors as written.
+///
+/// Refused with 5 where a part of either list is 0 or above 2^63 - 1, else with 6 where either has more than six.
 pub fn check(required: &[Fraction], barred: &[Fraction]) -> Result<(), Fault>
     ensures { refused_with result ≡ refusal_of_both required.now barred.now }
 {
@@ -51,7 +53,7 @@ pub(crate) fn folded_row(ws: &[Fraction]) -> Row
     work.row()
 }
 
-// The thinned row of divisors as written. Not one function with `folded_row`: the bound, the step and each clause differ.
+// The thinned row of divisors as written.
 pub(crate) fn thinned_row(ws: &[Fraction]) -> Row
     requires { (are_in_range ws.now ≡ true) × (length ws.now ≤ 6) }
     ensures thins { ThinOf ws.now (fractions result) }
@@ -73,8 +75,7 @@ pub(crate) fn is_folded(row: &Row) -> bool
     all_in_range(list) && *row == folded_row(list)
 }
 
-// Whether a row holds a thinned list: one that is in range and thins to itself. Not one function with `is_folded`: a closure and its clauses
-// would be longer than the line that they share.
+// Whether a row holds a thinned list: one that is in range and thins to itself.
 pub(crate) fn is_thinned(row: &Row) -> bool
     ensures { result ≡ is_thinned row.now }
 {
