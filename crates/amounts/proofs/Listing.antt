@@ -1,11 +1,10 @@
 -- One divisor on in a list on a sheet.
 use Rattle.std.proofs.Common.{◌≡◌, ℕ, suc, ◌+◌, ◌-◌, ◌<◌, ◌≤◌, cond, leb, ltb, List, [], ◌∷◌, ◌++◌, Some, None, Ok, Err, OnOk, Result, sym, refl, ap, ◌∙◌, arith, le-leb, lt-ltb}
-use Rattle.faults.specs.Faults.{Answer, Refused, found, at_byte, next, refused}
+use Rattle.faults.specs.Faults.{Answer, Refused, found, at_byte, next, refused, refused_with, shown, unplaced}
+use Rattle.faults.specs.declared.fault.Fault.{Fault}
 use Rattle.leaf.specs.Numbers.{number_at}
 use Rattle.std.proofs.lemmas.Bool.{cond-true}
 use Rattle.std.proofs.lemmas.List.{append_assoc, append-nil}
-use Rattle.divisors.specs.declared.refusal.Refusal.{Refusal}
-use Rattle.divisors.specs.Written.{number_of, refused as refuses}
 use Rattle.leaf.specs.Plans.{repeat, made_at}
 use Rattle.amounts.specs.Layout.{amount_table, divisor, list}
 use Rattle.divisors.specs.declared.fraction.Fraction.{Fraction}
@@ -46,6 +45,7 @@ pub ends : (n i : ℕ) (s : List ℕ) (at : ℕ) (xs : List Fraction) → n ≤ 
 ends n i s at xs h = let e : n - i ≡ 0 = omega arith in sym (ap (λ k. after xs (made_at amount_table (repeat divisor k) s at)) e ∙ ap (λ ys. found ys at) (append-nil xs))
 
 -- a row that holds fewer than six takes one more
-pub taken : {A P : Type 0} (r : Result A Refusal) (n : ℕ) → refuses r ≡ cond (ltb n 6) None (Some 6) → n < 6 → OnOk r P → P
+pub taken : {A P : Type 0} (r : Result A Fault) (n : ℕ) → refused_with r ≡ cond (ltb n 6) None (Some (unplaced 6)) → n < 6 → OnOk r P → P
 taken (Ok x) n q h p = p
-taken (Err e) n q h p = let z : Some (number_of e) ≡ None = q ∙ cond-true (ltb n 6) None (Some 6) (lt-ltb n 6 h) in absurd (let k : ◌≡◌ {A = ℕ} 0 1 = cc in omega arith)
+taken (Err f) n q h p =
+    let z : Some (shown f) ≡ None = q ∙ cond-true (ltb n 6) None (Some (unplaced 6)) (lt-ltb n 6 h) in absurd (let k : ◌≡◌ {A = ℕ} 0 1 = cc in omega arith)

@@ -13,7 +13,5 @@ pub mod Makes
 pub mod Means
 pub mod Nexts
 pub mod RulesLemmas
-pub mod Rows
 pub mod Laws
 pub mod InRange
-pub mod Lengths

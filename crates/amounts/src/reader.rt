@@ -48,7 +48,7 @@ fn read_list(reader: &mut Reader<'_>) -> Result<Row, Fault>
     // No more than six come, so none is refused here.
     for _ in 0..count {
         let f = read_fraction(reader)?;
-        row.push(f).map_err(|_| many)?;
+        row.push(f)?;
     }
     Ok(row)
 }

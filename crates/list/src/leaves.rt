@@ -1,5 +1,5 @@
 ghost use Rattle.std.specs.Prelude.{◌≡◌, ◌≤◌, true, false, List, [], length, take, if◌then◌else◌, ◌==◌, nat_lt, slice_index_or};
-ghost use Rattle.faults.specs.Faults.{refused_at, unplaced};
+ghost use Rattle.faults.specs.Faults.{refused_at, refused_with, unplaced};
 ghost use Rattle.leaf.specs.Kind.{Lawful, before, admits as admitted};
 ghost use Rattle.list.specs.Lists.{All, Placed, any};
 ghost use Rattle.list.specs.Runs.{Call, Promised, Promises, after, reading};
@@ -33,7 +33,7 @@ fn read_held<V: Copy, L: Leaf<V>>(held: &mut [L]) -> usize
 }
 
 impl<'a, V: Copy, L: Leaf<V>> Leaves<'a, V, L> {
-    ghost use Rattle.list.specs.Held.{Leads, LeadsOn, SameTable, Settled, Sound, Unsettles, held_of, lines_of, places_of, refused_with};
+    ghost use Rattle.list.specs.Held.{Leads, LeadsOn, SameTable, Settled, Sound, Unsettles, held_of, lines_of, places_of};
 
     // A list that holds no leaf, whatever the table has in it.
     pub fn open(table: &'a mut [L]) -> Leaves<'a, V, L>

@@ -4,18 +4,11 @@ use Rattle.std.proofs.Common.{sym, ap, subst, ◌∙◌, arith}
 use Rattle.std.proofs.lemmas.Bool.{and_from, and_parts, cond_both, cond-true, cond-false, eqb-false, le-leb, leb-true, ltb-true, ne_eqb, true≢false}
 use Rattle.divisors.specs.declared.fraction.Fraction.{Fraction}
 use Rattle.divisors.specs.declared.row.Row.{Row}
-use Rattle.divisors.specs.Dividing.{thin_of, thinned}
-use Rattle.divisors.specs.Folding.{fold_of}
 use Rattle.divisors.specs.Fractions.{in_range}
-use Rattle.divisors.specs.Lists.{tidy_of}
-use Rattle.divisors.specs.Rows.{fractions, padded}
-use Rattle.divisors.specs.Settled.{settled}
-use Rattle.divisors.specs.Written.{FoldOf, ThinOf, are_in_range, barred_of, over_integers, refusal_of, required_of}
-use Rattle.divisors.proofs.Fills.{all_in_range}
-use Rattle.divisors.proofs.Folds.{fold_is}
-use Rattle.divisors.proofs.Kept.{barred_thinned, positive, required_settled}
-use Rattle.divisors.proofs.Makes.{fold_of_lem, thin_of_lem}
-use Rattle.faults.specs.Faults.{found}
+use Rattle.divisors.specs.Lawful.{kept_laws}
+use Rattle.divisors.specs.Rows.{fractions, row_of}
+use Rattle.divisors.specs.Written.{FoldOf, ThinOf, are_in_range, barred_of, refusal_of, required_of}
+use Rattle.faults.specs.Faults.{found, unplaced}
 use Rattle.leaf.specs.Kind.{Lawful, is_value_window}
 use Rattle.leaf.specs.Layouts.{LayoutLaws, is_of_field, is_written_window, written_leaf}
 use Rattle.leaf.specs.Plans.{Makes, done, field, fits_if, made_at, repeat, then}
@@ -30,8 +23,7 @@ use Rattle.amounts.specs.Amounts.{amounts}
 use Rattle.amounts.specs.Grammar.{AmountRefusals}
 use Rattle.amounts.specs.InRange.{amount_is}
 use Rattle.amounts.specs.Layout.{Role, flags, magnitude, count, part, Written, amount, amount_fields, amount_layout, amount_table, both_lists, divisor, divisor_numbers, is_list, is_part, is_written, list, list_numbers, lists, sign_of}
-use Rattle.amounts.specs.Leaves.{is_bound, is_window, leaf_of, row_of}
-use Rattle.amounts.specs.Lengths.{barred_length, required_length, row_fractions, row_padded}
+use Rattle.amounts.specs.Leaves.{is_bound, is_window, leaf_of}
 use Rattle.amounts.specs.Makes.{lawful_leaf}
 use Rattle.amounts.specs.Making.{amount_in}
 use Rattle.amounts.specs.Meaning.{Means, WrittenMeans, value_of}
@@ -162,44 +154,31 @@ pub layout_laws : LayoutLaws amount_layout
 layout_laws = headed_laws amount_fields field_laws is_window (λ bounds p. leaf_of bounds.minimum bounds.maximum p.0 p.1)
 
 folds : (ws : List Fraction) → are_in_range ws ≡ true → FoldOf ws (fractions (row_of (required_of ws)))
-unfolding required_of
-folds ws h = subst (FoldOf ws) (sym (row_fractions (required_of ws))) (fold_of_lem ws (fold_of (over_integers ws)) h (fold_is (over_integers ws)))
+folds ws h = subst (FoldOf ws) (sym (kept_laws.list (required_of ws))) (kept_laws.folds ws h)
 
 thins : (us : List Fraction) → are_in_range us ≡ true → ThinOf us (fractions (row_of (barred_of us)))
-unfolding barred_of
-thins us h =
-    subst (ThinOf us) (sym (row_fractions (barred_of us)))
-    (thin_of_lem us (barred_of us) h (ap (λ (ys : List Fraction). thin_of (tidy_of ys)) (sym (positive us (all_in_range us h)))))
+thins us h = subst (ThinOf us) (sym (kept_laws.list (barred_of us))) (kept_laws.thins us h)
 
-pub leaf_lawful :
-    (low high : Option ℤ) (ws us : List Fraction) → is_value_window amounts low high ≡ true → are_in_range ws ≡ true → length ws ≤ 6 → are_in_range us ≡ true → length us ≤ 6 →
-    Lawful amounts (leaf_of low high ws us)
-leaf_lawful low high ws us w h l g m =
-    let r = row_of (required_of ws) in
-    let s = row_of (barred_of us) in
-    lawful_leaf low high r s w
-    (and_from (padded r) (settled (fractions r)) (row_padded (required_of ws) (omega (arith, required_length ws))) (ap settled (row_fractions (required_of ws)) ∙ required_settled ws (all_in_range ws h)))
-    (and_from (padded s) (thinned (fractions s)) (row_padded (barred_of us) (omega (arith, barred_length us))) (ap thinned (row_fractions (barred_of us)) ∙ barred_thinned us (all_in_range us g)))
+leaf_lawful : (low high : Option ℤ) (ws us : List Fraction) → is_value_window amounts low high ≡ true → refusal_of ws ≡ None → refusal_of us ≡ None → Lawful amounts (leaf_of low high ws us)
+leaf_lawful low high ws us w h g = lawful_leaf low high (row_of (required_of ws)) (row_of (barred_of us)) w (kept_laws.folded ws h) (kept_laws.thinned us g)
 
 pub blank_lawful : Lawful amounts (leaf_of None None [] [])
-blank_lawful = leaf_lawful None None [] [] refl refl (omega arith) refl (omega arith)
+blank_lawful = leaf_lawful None None [] [] refl refl refl
 
 pub leaf_of_means : (low high : Option ℤ) (ws us : List Fraction) → are_in_range ws ≡ true → are_in_range us ≡ true → Means low high ws us (leaf_of low high ws us)
 leaf_of_means low high ws us h g = leaf_means (leaf_of low high ws us) ws us (folds ws h) (thins us g)
 
--- both lists of a leaf as written
-written_lists : (w : Written) → amount_layout.fits w ≡ true → (are_in_range w.rest.0 ≡ true) × (length w.rest.0 ≤ 6) × (are_in_range w.rest.1 ≡ true) × (length w.rest.1 ≤ 6)
-written_lists w f =
-    let (a, b) = and_parts (is_list w.rest.0) (is_list w.rest.1) (fitting amount_fields field_laws w f).2 in
-    let (i, j) = and_parts (are_in_range w.rest.0) (nat_le (length w.rest.0) 6) a in
-    let (k, l) = and_parts (are_in_range w.rest.1) (nat_le (length w.rest.1) 6) b in
-    (i, leb-true (length w.rest.0) 6 j, k, leb-true (length w.rest.1) 6 l)
+-- nothing is refused of the lists of a leaf as written
+list_taken : (ws : List Fraction) → is_list ws ≡ true → refusal_of ws ≡ None
+list_taken ws h =
+    let (a, b) = and_parts (are_in_range ws) (nat_le (length ws) 6) h in
+    cond-true (are_in_range ws) (cond (nat_le (length ws) 6) None (Some (unplaced 6))) (Some (unplaced 5)) a ∙ cond-true (nat_le (length ws) 6) None (Some (unplaced 6)) b
 
 pub written_lawful : (w : Written) → amount_layout.fits w ≡ true → is_written_window amount_layout w ≡ true → Lawful amounts (written_leaf amount_layout w)
 written_lawful w f t =
     let (a, b, c) = fitting amount_fields field_laws w f in
-    let (i, j, k, l) = written_lists w f in
-    leaf_lawful (written amount_in w.low) (written amount_in w.high) w.rest.0 w.rest.1 (windowed (written amount_in w.low) (written amount_in w.high) (bounded w.low a) (bounded w.high b) t) i j k l
+    let (i, j) = and_parts (is_list w.rest.0) (is_list w.rest.1) c in
+    leaf_lawful (written amount_in w.low) (written amount_in w.high) w.rest.0 w.rest.1 (windowed (written amount_in w.low) (written amount_in w.high) (bounded w.low a) (bounded w.high b) t) (list_taken w.rest.0 i) (list_taken w.rest.1 j)
   where
     bounded : (o : Option WrittenAmount) → fits_if is_written o ≡ true → is_bound (written amount_in o) ≡ true
     bounded None h = refl
@@ -214,7 +193,9 @@ written_lawful w f t =
 -- a leaf as written admits what is written
 pub written_means : WrittenMeans
 unfolding WrittenMeans
-written_means w f = let (i, j, k, l) = written_lists w f in leaf_of_means (value_of w.low) (value_of w.high) w.rest.0 w.rest.1 i k
+written_means w f =
+    let (i, j) = and_parts (is_list w.rest.0) (is_list w.rest.1) (fitting amount_fields field_laws w f).2 in
+    leaf_of_means (value_of w.low) (value_of w.high) w.rest.0 w.rest.1 (and_parts (are_in_range w.rest.0) (nat_le (length w.rest.0) 6) i).0 (and_parts (are_in_range w.rest.1) (nat_le (length w.rest.1) 6) j).0
 
 -- which fields give which refusal
 numbered_divisors : (k : ℕ) → Numbered amount_table (repeat divisor k)
@@ -261,12 +242,7 @@ refusals s at = record {
     seven count n e f = absurd (omega (arith, e))
     seven part n e f = absurd (omega (arith, e))
 
--- nothing is refused of the lists that were read
-list_taken : (ws : List Fraction) → is_list ws ≡ true → refusal_of ws ≡ None
-list_taken ws h =
-    let (a, b) = and_parts (are_in_range ws) (nat_le (length ws) 6) h in
-    cond-true (are_in_range ws) (cond (nat_le (length ws) 6) None (Some 6)) (Some 5) a ∙ cond-true (nat_le (length ws) 6) None (Some 6) b
-
+-- nor of those that were read
 pub lists_taken :
     (s : List ℕ) (at : ℕ) (rows : Row × Row) (e : ℕ) → found (both_lists rows) e ≡ made_at amount_table lists s at →
     (refusal_of (fractions rows.0) ≡ None) × (refusal_of (fractions rows.1) ≡ None)
