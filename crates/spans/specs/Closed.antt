@@ -2,7 +2,6 @@
 use Rattle.std.specs.Prelude.{ℕ, Bool, true, false, cond, not, ◌&&◌, Some, None, Option, ⊤, ◌==◌, nat_le}
 use Rattle.leaf.specs.Kind.{Kind, ext_le, from}
 use Rattle.leaf.specs.Layouts.{no_layout}
-use Rattle.spans.specs.declared.closed.Closing.{Closing}
 use Rattle.spans.specs.declared.closed.Closed.{Closed}
 
 abbrev pub is_shut : Option ℕ → ℕ → Bool

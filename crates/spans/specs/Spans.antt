@@ -1,5 +1,5 @@
 -- Windows of every day: one rule, and every day on its grid.
-use Rattle.std.specs.Prelude.{ℕ, ◌+◌, ◌^◌, Bool, true, false, cond, ◌&&◌, leb, List, [], ◌∷◌, Some, None, Ok, Err, Option, Result, ⊤, ◌==◌, nat_lt}
+use Rattle.std.specs.Prelude.{ℕ, ◌+◌, ◌^◌, Bool, true, false, cond, ◌&&◌, leb, [], ◌∷◌, Some, None, Ok, Err, Option, Result, ⊤, ◌==◌, nat_lt}
 use Rattle.faults.specs.Faults.{Refused, unplaced}
 use Rattle.leaf.specs.Fields.{Shape, byte, number}
 use Rattle.leaf.specs.Kind.{Kind, ext_le, from, is_window_of, upto}

@@ -1,10 +1,9 @@
 -- A kind without a day shows the laws that the kind below shows.
-use Rattle.std.specs.Prelude.{◌≡◌, ℕ, ◌-◌, ◌^◌, Bool, true, false, cond, not, ◌&&◌, ◌⊎◌, List, Some, None, Option, ◌==◌, ◌≢◌, nat_le, nat_lt, refl}
+use Rattle.std.specs.Prelude.{◌≡◌, ℕ, Bool, true, false, not, ◌&&◌, ◌⊎◌, Some, None, Option, ◌≢◌, nat_le, refl}
 use Rattle.std.proofs.Common.{sym, ap, subst, ◌∙◌, inl, inr, arith}
 use Rattle.std.proofs.lemmas.Bool.{and_from, and_parts, both_ways, cases_Bool, cond_both, eq-eqb, eqb-true, le-leb, leb-false, leb-true, true≢false, false≢true}
 use Rattle.leaf.specs.Kind.{Kind, Laws, Lawful, ext_le, from, same_rule}
 use Rattle.leaf.specs.Laws.Judging.{no_layout_laws}
-use Rattle.spans.specs.declared.closed.Closing.{Closing}
 use Rattle.spans.specs.declared.closed.Closed.{Closed}
 use Rattle.spans.specs.Closed.{closed, closed_on, is_shut, open_next, pair_le, part_of}
 use Rattle.spans.specs.Pairs.{pair_from, pair_parts, pair_tie, pair_total}

@@ -1,7 +1,7 @@
 -- The layout of day leaves shows its laws: what its fields make is what is written in them.
-use Rattle.std.specs.Prelude.{◌≡◌, ℕ, ◌+◌, ◌*◌, ◌^◌, ◌<◌, ◌≤◌, Bool, true, false, ◌&&◌, List, [], ◌∷◌, Some, None, Option, is_some, ⊤, refl}
+use Rattle.std.specs.Prelude.{◌≡◌, ℕ, ◌^◌, ◌<◌, Bool, true, false, List, [], ◌∷◌, Some, None, Option, is_some, ⊤, refl}
 use Rattle.std.proofs.Common.{sym, ap, ◌∙◌, arith}
-use Rattle.std.proofs.lemmas.Bool.{and_parts, cond_both, ltb-true, true≢false}
+use Rattle.std.proofs.lemmas.Bool.{cond_both, ltb-true, true≢false}
 use Rattle.leaf.specs.Kind.{Lawful}
 use Rattle.leaf.specs.Layouts.{LayoutLaws, is_of_field, is_written_window, written_leaf}
 use Rattle.leaf.specs.Plans.{done, field, fits_if, then}

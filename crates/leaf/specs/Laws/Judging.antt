@@ -7,7 +7,7 @@ use Rattle.leaf.specs.Encoding.{Bytes}
 use Rattle.leaf.specs.Kind.{Kind, Laws, first_of, Lawful, layout_of, leaf_at}
 use Rattle.leaf.specs.Grammar.{AnswersStand, LeafGrammar, WellRead}
 use Rattle.leaf.specs.Plans.{made_at, Makes, Reached, EndsEarly, BadNumber, Unfit}
-use Rattle.leaf.specs.Layouts.{AreLeafNumbers, Layout, LayoutLaws, LeafJudged, LeafStands, OneAnswer, StandAsLeaf, StandInTurn, bytes_of, is_of_field, is_written_window, leaf_under, no_layout, written_leaf}
+use Rattle.leaf.specs.Layouts.{Layout, LayoutLaws, LeafJudged, LeafStands, OneAnswer, StandAsLeaf, StandInTurn, bytes_of, is_of_field, is_written_window, leaf_under, no_layout, written_leaf}
 use Rattle.leaf.specs.Laws.Writing.{found_refused}
 use Rattle.leaf.specs.Laws.Rows.{row_leaf, leaf_row, drop_front, written_within}
 use Rattle.leaf.specs.Laws.Starts.{byte_past}

@@ -1,15 +1,13 @@
 -- Parts of a plan as they are written: what a part makes is what stands there as written, and what stands there is made.
-use Rattle.std.specs.Prelude.{◌≡◌, ℕ, zero, suc, ◌+◌, ◌^◌, ◌<◌, Bool, true, false, ◌&&◌, List, [], ◌∷◌, ◌++◌, length, map, drop, Some, None, Option, is_some, ⊤, refl}
+use Rattle.std.specs.Prelude.{◌≡◌, ℕ, zero, suc, ◌+◌, ◌^◌, ◌<◌, Bool, true, ◌&&◌, List, [], ◌∷◌, ◌++◌, length, map, drop, ⊤, refl}
 use Rattle.std.specs.List.{list_all}
-use Rattle.std.proofs.Common.{sym, ap, subst, ◌∙◌, inl, inr}
-use Rattle.std.proofs.lemmas.Bool.{and_from, and_parts, true≢false}
-use Rattle.leaf.specs.Fields.{byte, number, Stands}
-use Rattle.leaf.specs.Numbers.{has_bit}
-use Rattle.leaf.specs.Plans.{Table, Plan, done, ask, either, then, field, head, repeat, all_numbers, fits_if, numbers_if, Makes}
-use Rattle.leaf.specs.Windows.{written}
-use Rattle.leaf.specs.Layouts.{AreLeafNumbers, AreNumbers, StandAsLeaf, StandInTurn}
+use Rattle.std.proofs.Common.{sym, ap, subst, ◌∙◌}
+use Rattle.std.proofs.lemmas.Bool.{and_from, and_parts}
+use Rattle.leaf.specs.Fields.{number, Stands}
+use Rattle.leaf.specs.Plans.{Table, Plan, done, ask, then, field, repeat, all_numbers, Makes}
+use Rattle.leaf.specs.Layouts.{AreNumbers, StandInTurn}
 use Rattle.leaf.specs.Laws.Rows.{both_below, row_join, row_parts}
-use Rattle.leaf.specs.Laws.Fielded.{bounds_made, byte_made, byte_makes, number_made, number_makes}
+use Rattle.leaf.specs.Laws.Fielded.{number_made, number_makes}
 
 module _ {Role : Type 0} (t : Table Role) where
   pub record Part {W A : Type 0} (plan : Plan Role A) (numbers : W → List ℕ) (fits : W → Bool) (made : W → A) : Type 0 where
