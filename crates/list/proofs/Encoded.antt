@@ -1,134 +1,131 @@
--- Sheets in bytes, by the layout of their leaves.
-use Rattle.std.specs.Prelude.{◌≡◌, ℕ, zero, suc, ◌+◌, ◌-◌, ◌<◌, ◌≤◌, true, cond, List, [], ◌∷◌, ◌++◌, map, length, take, drop, Some, None, nat_le, refl}
-use Rattle.std.proofs.Common.{sym, ap, subst, ◌∙◌, arith}
-use Rattle.std.proofs.lemmas.Bool.{true≢false}
-use Rattle.std.proofs.lemmas.List.{append_assoc, length-append}
-use Rattle.leaf.specs.Encoding.{Bytes}
-use Rattle.faults.specs.Faults.{at_byte}
-use Rattle.leaf.specs.Kind.{Kind, Laws, WellRead}
-use Rattle.leaf.specs.Layouts.{Layout, LeafGrammar, bytes_of, leaf_of}
-use Rattle.list.specs.Lists.{All}
-use Rattle.list.specs.Sheets.{Outcome, sheet_outcome}
-use Rattle.list.specs.Outcomes.{Begins, Bytes as Chunk, Comes, Taken, nothing, one, too_long, empty, other_kind, whole, no_leaf, full, inserted_all, joined_bytes, leaves_in}
-use Rattle.list.specs.Encoded.{EncodedSheets, Sound, encoded_outcome, leaves_bytes, sheet_bytes}
-use Rattle.list.proofs.Outcomes.{comes, sheet_written}
+-- Sheets that are written from leaves.
+use Rattle.std.specs.Prelude.{◌≡◌, ℕ, zero, suc, ◌+◌, ◌-◌, ◌<◌, ◌≤◌, true, cond, List, [], ◌∷◌, ◌++◌, length, take, drop, Some, None, Option, nat_le, refl}
+use Rattle.std.proofs.Common.{sym, ap, subst, ◌∙◌, arith, length-drop}
+use Rattle.std.proofs.lemmas.Bool.{cond_both, cond-true, cond-false, le-leb, lt-leb}
+use Rattle.std.proofs.lemmas.List.{append-nil, append_assoc, length-append, length-map, length-take, take-append-drop}
+use Rattle.std.proofs.Math.Dec.{leb-suc-suc}
+use Rattle.faults.specs.Faults.{Refused, found, at_byte}
+use Rattle.leaf.specs.Kind.{Kind, Laws, before, leaf_at}
+use Rattle.leaf.specs.Grammar.{WellRead}
+use Rattle.leaf.specs.Layouts.{bytes_of, written_leaf}
+use Rattle.leaf.specs.Laws.Judging.{leaf_grammar, well_read}
+use Rattle.list.specs.Lists.{All, any, inserted, inserted_all}
+use Rattle.list.specs.Sheets.{Outcome, after_leaf, ends, sheet_outcome}
+use Rattle.list.specs.Encoded.{IsLeaf, WrittenSheets, leaves_bytes, leaves_of, sheet_bytes, written_outcome}
+use Rattle.list.proofs.Reading.{all_append_parts}
+use Rattle.list.proofs.Fed.{accepted_full, accepted_is, left, left_end, left_leaf, left_stop, sheet_begun}
 
-module _ {V L Role W M : Type 0} (k : Kind V L) (laws : Laws k) (y : Layout Role W M L) (grammar : LeafGrammar y k.reading) where
-  abbrev chunk : (w : W) → Sound k y w → Chunk k
-  chunk w s = record { bytes = bytes_of y w; leaf = leaf_of y w; read = λ front rest. grammar.read_back w front rest s.fits s.window }
+module _ {V L : Type 0} (k : Kind V L) where
+  pub longer : (x : L) (xs : List L) → length (inserted (before k) x xs) ≡ suc (length xs)
+  longer x [] = refl
+  longer x (y ∷ ys) =
+      cond_both (any (λ z. before k z x) (y ∷ ys)) (y ∷ inserted (before k) x ys) (x ∷ (y ∷ ys)) (λ zs. length zs ≡ suc (length (y ∷ ys))) (λ t. ap suc (longer x ys)) (λ t. refl)
 
-  abbrev chunks : (ws : List W) → All (Sound k y) ws → List (Chunk k)
-  chunks [] h = []
-  chunks (w ∷ ws) h = chunk w h.0 ∷ chunks ws h.1
+  pub all_longer : (xs ys : List L) → length (inserted_all (before k) xs ys) ≡ length ys + length xs
+  all_longer [] ys = omega arith
+  all_longer (x ∷ xs) ys = let e = all_longer xs (inserted (before k) x ys) in let i = longer x ys in omega (arith, e, i)
 
-  chunks_bytes : (ws : List W) (h : All (Sound k y) ws) → joined_bytes k (chunks ws h) ≡ leaves_bytes k y ws
-  chunks_bytes [] h = refl
-  chunks_bytes (w ∷ ws) h = ap (λ (xs : List ℕ). bytes_of y w ++ xs) (chunks_bytes ws h.1)
+-- leaves accepted before an outcome
+abbrev pub accepted_before : {L : Type 0} → List L → Outcome L → Outcome L
+accepted_before xs o = record { taken = xs ++ o.taken; held = o.held; start = o.start; stop = o.stop }
 
-  chunks_length : (ws : List W) (h : All (Sound k y) ws) → length (chunks ws h) ≡ length ws
-  chunks_length [] h = refl
-  chunks_length (w ∷ ws) h = ap suc (chunks_length ws h.1)
+module _ {V L : Type 0} (k : Kind V L) (laws : Laws k) (b : ℕ) where
+  bytes_append : (ws vs : List k.Written) → leaves_bytes k b (ws ++ vs) ≡ leaves_bytes k b ws ++ leaves_bytes k b vs
+  bytes_append [] vs = refl
+  bytes_append (w ∷ ws) vs = ap (λ (xs : List ℕ). bytes_of (k.layout b) w ++ xs) (bytes_append ws vs) ∙ sym (append_assoc (bytes_of (k.layout b) w) (leaves_bytes k b ws) (leaves_bytes k b vs))
 
-  taken_bytes : (m : ℕ) (ws : List W) (h : All (Sound k y) ws) → joined_bytes k (take m (chunks ws h)) ≡ leaves_bytes k y (take m ws)
-  taken_bytes zero ws h = refl
-  taken_bytes (suc m) [] h = refl
-  taken_bytes (suc m) (w ∷ ws) h = ap (λ (xs : List ℕ). bytes_of y w ++ xs) (taken_bytes m ws h.1)
+  -- a leaf stands there in its bytes
+  leaf_stands : (bytes front rest : List ℕ) (w : k.Written) → IsLeaf k b w → bytes ≡ (b ∷ front) ++ (bytes_of (k.layout b) w ++ rest)
+      → leaf_at k bytes (length (b ∷ front)) ≡ found (written_leaf (k.layout b) w) (length (b ∷ front) + length (bytes_of (k.layout b) w))
+  leaf_stands bytes front rest w s q = ap (λ (xs : List ℕ). leaf_at k xs (length (b ∷ front))) q ∙ (leaf_grammar k laws).read_back b w front rest s.fits s.window
 
-  taken_leaves : (m : ℕ) (ws : List W) (h : All (Sound k y) ws) → leaves_in k (take m (chunks ws h)) ≡ map (leaf_of y) (take m ws)
-  taken_leaves zero ws h = refl
-  taken_leaves (suc m) [] h = refl
-  taken_leaves (suc m) (w ∷ ws) h = ap (λ (xs : List L). leaf_of y w ∷ xs) (taken_leaves m ws h.1)
+  some_bytes : (w : k.Written) → IsLeaf k b w → 0 < length (bytes_of (k.layout b) w)
+  some_bytes w s =
+      let e = leaf_stands ((b ∷ []) ++ (bytes_of (k.layout b) w ++ [])) [] [] w s refl in
+      let p = (subst (WellRead k ((b ∷ []) ++ (bytes_of (k.layout b) w ++ [])) 1) e (well_read k laws ((b ∷ []) ++ (bytes_of (k.layout b) w ++ [])) 1)).1 in
+      omega (arith, p)
 
-  written : (n b : ℕ) (ws : List W) (h : List L) → k.kind_byte b ≡ true → All (Sound k y) ws → length (sheet_bytes k y b ws) ≤ 32768 → sheet_outcome k n (sheet_bytes k y b ws) h ≡ encoded_outcome k y n ws h
-  written n b ws h t s l =
-      let cs = chunks ws s in
-      let e = chunks_bytes ws s in
+  module _ (n : ℕ) (bytes : List ℕ) where
+    abbrev goes : ℕ → List L → Outcome L
+    goes at h = left k n bytes at h
+
+    -- leaves that stand there in their bytes are accepted, if there are places for them
+    pub leaves_stand : (ws : List k.Written) (front rest : List ℕ) (h : List L) → All (IsLeaf k b) ws → bytes ≡ (b ∷ front) ++ (leaves_bytes k b ws ++ rest) → length ws ≤ n - length h
+        → goes (length (b ∷ front)) h ≡ accepted_before (leaves_of k b ws) (goes (length ((b ∷ front) ++ leaves_bytes k b ws)) (inserted_all (before k) (leaves_of k b ws) h))
+    leaves_stand [] front rest h s q r = ap (λ (xs : List ℕ). goes (length xs) h) (sym (append-nil (b ∷ front)))
+    leaves_stand (w ∷ ws) front rest h s q r =
+        let c = bytes_of (k.layout b) w in
+        let at = length (b ∷ front) in
+        let x = written_leaf (k.layout b) w in
+        let h' = inserted (before k) x h in
+        let e = ap (λ (xs : List ℕ). (b ∷ front) ++ xs) (append_assoc c (leaves_bytes k b ws) rest) in
+        let f = append_assoc (b ∷ front) c (leaves_bytes k b ws ++ rest) in
+        let p = some_bytes w s.0 in
+        let m = ap length (q ∙ e) in
+        let m1 = length-append (b ∷ front) (c ++ (leaves_bytes k b ws ++ rest)) in
+        let m2 = length-append c (leaves_bytes k b ws ++ rest) in
+        let g = longer k x h in
+        let i = accepted_is k n bytes at h x (at + length c) (leaf_stands bytes front (leaves_bytes k b ws ++ rest) w s.0 (q ∙ e)) (lt-leb n (length h) (omega (arith, r))) in
+        left_leaf k n bytes laws at h x (at + length c) (omega (arith, m, m1, m2, p)) i
+        ∙ (ap (λ (j : ℕ). after_leaf x (goes j h')) (sym (length-append (b ∷ front) c))
+        ∙ (ap (after_leaf x) (leaves_stand ws (front ++ c) rest h' s.1 (q ∙ (e ∙ sym f)) (omega (arith, r, g)))
+        ∙ ap (λ (xs : List ℕ). after_leaf x (accepted_before (leaves_of k b ws) (goes (length xs) (inserted_all (before k) (leaves_of k b ws) h')))) (append_assoc (b ∷ front) c (leaves_bytes k b ws))))
+
+  -- what stops a sheet at the first of the leaves for which there is no place
+  abbrev past : List k.Written → ℕ → Option Refused
+  past [] at = None
+  past (v ∷ vs) at = Some (at_byte 10 at)
+
+  past_is : (n : ℕ) (ws : List k.Written) (at : ℕ) → past (drop n ws) at ≡ cond (nat_le (length ws) n) None (Some (at_byte 10 at))
+  past_is zero [] at = refl
+  past_is (suc n) [] at = sym (cond-true (nat_le 0 (suc n)) None (Some (at_byte 10 at)) (le-leb 0 (suc n) (omega arith)))
+  past_is zero (w ∷ ws) at = sym (cond-false (nat_le (length (w ∷ ws)) 0) None (Some (at_byte 10 at)) (lt-leb (length (w ∷ ws)) 0 (omega arith)))
+  past_is (suc n) (w ∷ ws) at = past_is n ws at ∙ ap (λ t. cond t None (Some (at_byte 10 at))) (sym (leb-suc-suc (length ws) n))
+
+  -- behind the leaves for which there were places
+  rest_is : (n : ℕ) (bytes : List ℕ) (ts ds : List k.Written) (g : List L) → All (IsLeaf k b) ds → bytes ≡ sheet_bytes k b ts ++ leaves_bytes k b ds → (0 < length ds → n ≤ length g)
+      → left k n bytes (length (sheet_bytes k b ts)) g ≡ ends (length (sheet_bytes k b ts)) g (past ds (length (sheet_bytes k b ts)))
+  rest_is n bytes ts [] g s q f = left_end k n bytes (length (sheet_bytes k b ts)) g (let m = ap length q in let i = length-append (sheet_bytes k b ts) [] in omega (arith, m, i))
+  rest_is n bytes ts (d ∷ ds) g s q f =
+      let at = length (sheet_bytes k b ts) in
+      let c = bytes_of (k.layout b) d in
+      let m = ap length q in
+      let i = length-append (sheet_bytes k b ts) (c ++ leaves_bytes k b ds) in
+      let j = length-append c (leaves_bytes k b ds) in
+      let p = some_bytes d s.0 in
+      left_stop k n bytes at g (at_byte 10 at) (omega (arith, m, i, j, p))
+      (accepted_full k n bytes at g (written_leaf (k.layout b) d) (at + length c) (leaf_stands bytes (leaves_bytes k b ts) (leaves_bytes k b ds) d s.0 q) (le-leb n (length g) (f (omega arith))))
+
+  written : (n : ℕ) (ws : List k.Written) (h : List L) → k.kind_byte b ≡ true → All (IsLeaf k b) ws → length (sheet_bytes k b ws) ≤ 32768 → sheet_outcome k n (sheet_bytes k b ws) h ≡ written_outcome k b n ws h
+  written n ws h t s l =
+      let bytes = sheet_bytes k b ws in
       let room = n - length h in
-      let p = taken_leaves room ws s in
-      let q = taken_bytes room ws s in
-      let o = sheet_written k laws n b cs h t (subst (λ (xs : List ℕ). length (b ∷ xs) ≤ 32768) (sym e) l) in
-      ap (λ (xs : List ℕ). sheet_outcome k n (b ∷ xs) h) (sym e)
-      ∙ (o ∙ λ i. record {
-        taken = p i;
-        held = inserted_all k h (p i);
-        start = 1 + length (q i);
-        stop = cond (nat_le (chunks_length ws s i) room) None (Some (at_byte 10 (1 + length (q i))));
-      })
-
-  -- the leaves that are taken stand there in their bytes
-  pub record Stretch (bytes : List ℕ) (at : ℕ) (xs : List L) (end : ℕ) : Type 0 where
-    pub leaves : List W
-    pub sound : All (Sound k y) leaves
-    pub leaves_are : xs ≡ map (leaf_of y) leaves
-    pub bytes_are : drop at bytes ≡ leaves_bytes k y leaves ++ drop end bytes
-    pub ends : end ≡ at + length (leaves_bytes k y leaves)
-
-  stretch : (n : ℕ) (bytes : List ℕ) → Bytes bytes → (at end : ℕ) (h h' xs : List L) → Taken k n bytes at h xs end h' → Stretch bytes at xs end
-  stretch n bytes b at end h h' [] nothing = record { leaves = []; sound = tt; leaves_are = refl; bytes_are = refl; ends = omega arith }
-  stretch n bytes b at end h h' (x ∷ xs) (one {e = e} g r f t) =
-      let j = ((grammar.judged bytes at b).read x e).0 r in
-      let w = j.0 in
-      let v = stretch n bytes b e end _ h' xs t in
-      let u = length-append (bytes_of y w) (leaves_bytes k y v.leaves) in
-      let a = j.1.ends in
-      let c = v.ends in
-      record {
-        leaves = w ∷ v.leaves;
-        sound = (record { fits = j.1.fits; window = j.2 }, v.sound);
-        leaves_are = λ i. j.3 i ∷ v.leaves_are i;
-        bytes_are = j.1.bytes ∙ (ap (λ (ys : List ℕ). bytes_of y w ++ ys) v.bytes_are ∙ sym (append_assoc (bytes_of y w) (leaves_bytes k y v.leaves) (drop end bytes)));
-        ends = omega (arith, u, a, c);
-      }
-
-  take_front : (xs ys : List ℕ) → take (length xs) (xs ++ ys) ≡ xs
-  take_front [] ys = refl
-  take_front (x ∷ xs) ys = ap (λ (zs : List ℕ). x ∷ zs) (take_front xs ys)
-
-  abbrev ReadAs : (bytes : List ℕ) → ℕ → Outcome L → Type 0
-  ReadAs bytes kind o = (ws : List W) × All (Sound k y) ws × (o.taken ≡ map (leaf_of y) ws) × (take o.start bytes ≡ sheet_bytes k y kind ws)
-
-  of_stretch : (n : ℕ) (bytes : List ℕ) (g : Begins k n bytes) (o : Outcome L) → Stretch bytes 1 o.taken o.start → ReadAs bytes g.kind o
-  of_stretch n bytes g o v =
-      let d : g.rest ≡ leaves_bytes k y v.leaves ++ drop o.start bytes = ap (drop 1) (sym g.bytes_are) ∙ v.bytes_are in
-      let m = v.ends in
-      let e : o.start ≡ suc (length (leaves_bytes k y v.leaves)) = omega (arith, m) in (
-        v.leaves,
-        v.sound,
-        v.leaves_are,
-        (λ i. take (e i) (g.bytes_are i)) ∙ ap (λ (xs : List ℕ). g.kind ∷ xs) (ap (take (length (leaves_bytes k y v.leaves))) d ∙ take_front (leaves_bytes k y v.leaves) (drop o.start bytes)),
-      )
-
-  read_of : (n : ℕ) (bytes : List ℕ) (h : List L) → Bytes bytes → (g : Begins k n bytes) → (o : Outcome L) → Comes k n bytes h o → ReadAs bytes g.kind o
-  read_of n bytes h b g o (too_long l) = absurd (let f = g.fits in omega (arith, f, l))
-  read_of n bytes h b g o (empty q) = absurd (let z = ap length (sym g.bytes_are ∙ q) in omega (arith, z))
-  read_of n bytes h b g o (other_kind {b = c} {rest = rest} l q f) = absurd (true≢false (sym g.is_kind ∙ (ap k.kind_byte (heads (sym g.bytes_are ∙ q)) ∙ f)))
-    where
-      heads : {a c : ℕ} {xs ys : List ℕ} → a ∷ xs ≡ c ∷ ys → a ≡ c
-      heads e = cc
-  read_of n bytes h b g o (whole {xs = xs} {h' = h'} {end = end} c t z) = of_stretch n bytes g o (stretch n bytes b 1 end h h' xs t)
-  read_of n bytes h b g o (no_leaf {xs = xs} {h' = h'} {end = end} c t z q) = of_stretch n bytes g o (stretch n bytes b 1 end h h' xs t)
-  read_of n bytes h b g o (full {xs = xs} {h' = h'} {end = end} c t z q f) = of_stretch n bytes g o (stretch n bytes b 1 end h h' xs t)
-
-  -- no leaf has no bytes
-  some_bytes : (w : W) → Sound k y w → 0 < length (bytes_of y w)
-  some_bytes w s = let p = (subst (WellRead k (bytes_of y w ++ []) 0) (grammar.read_back w [] [] s.fits s.window) (laws.well_read (bytes_of y w ++ []) 0)).1 in omega (arith, p)
+      let ts = take room ws in
+      let ds = drop room ws in
+      let g = inserted_all (before k) (leaves_of k b ts) h in
+      let start = length (sheet_bytes k b ts) in
+      let (st, sd) = all_append_parts (IsLeaf k b) ts ds (subst (All (IsLeaf k b)) (sym (take-append-drop room ws)) s) in
+      let e : bytes ≡ sheet_bytes k b ts ++ leaves_bytes k b ds = ap (λ (xs : List ℕ). b ∷ xs) (ap (leaves_bytes k b) (sym (take-append-drop room ws)) ∙ bytes_append ts ds) in
+      let lt = length-take room ws in
+      let ld = length-drop room ws in
+      let lg : length g ≡ length h + length ts = all_longer k (leaves_of k b ts) h ∙ ap (λ (j : ℕ). length h + j) (length-map ts (written_leaf (k.layout b))) in
+      sheet_begun k n bytes h (record { short = l; some = omega arith; of_kind = t })
+      ∙ (leaves_stand n bytes ts [] (leaves_bytes k b ds) h st e (omega (arith, lt))
+      ∙ (ap (accepted_before (leaves_of k b ts)) (rest_is n bytes ts ds g sd e (λ i. omega (arith, i, lt, ld, lg)))
+      ∙ λ i. record { taken = append-nil (leaves_of k b ts) i; held = g; start = start; stop = past_is room ws start i }))
 
   cancel : (xs ys zs : List ℕ) → xs ++ ys ≡ xs ++ zs → ys ≡ zs
   cancel [] ys zs e = e
   cancel (x ∷ xs) ys zs e = cancel xs ys zs (ap (drop 1) e)
 
-  alone : (ws vs : List W) → All (Sound k y) ws → All (Sound k y) vs → leaves_bytes k y ws ≡ leaves_bytes k y vs → ws ≡ vs
+  alone : (ws vs : List k.Written) → All (IsLeaf k b) ws → All (IsLeaf k b) vs → leaves_bytes k b ws ≡ leaves_bytes k b vs → ws ≡ vs
   alone [] [] s t e = refl
-  alone [] (v ∷ vs) s t e = absurd (let p = some_bytes v t.0 in let l = ap length e in let a = length-append (bytes_of y v) (leaves_bytes k y vs) in omega (arith, p, l, a))
-  alone (w ∷ ws) [] s t e = absurd (let p = some_bytes w s.0 in let l = ap length e in let a = length-append (bytes_of y w) (leaves_bytes k y ws) in omega (arith, p, l, a))
+  alone [] (v ∷ vs) s t e = absurd (let p = some_bytes v t.0 in let l = ap length e in let a = length-append (bytes_of (k.layout b) v) (leaves_bytes k b vs) in omega (arith, p, l, a))
+  alone (w ∷ ws) [] s t e = absurd (let p = some_bytes w s.0 in let l = ap length e in let a = length-append (bytes_of (k.layout b) w) (leaves_bytes k b ws) in omega (arith, p, l, a))
   alone (w ∷ ws) (v ∷ vs) s t e =
-      let p : w ≡ v = grammar.alone w v (leaves_bytes k y ws) (leaves_bytes k y vs) s.0.fits t.0.fits e in
-      let q : ws ≡ vs = alone ws vs s.1 t.1 (cancel (bytes_of y w) (leaves_bytes k y ws) (leaves_bytes k y vs) (e ∙ ap (λ (z : W). bytes_of y z ++ leaves_bytes k y vs) (sym p))) in
+      let p : w ≡ v = (leaf_grammar k laws).alone b w v (leaves_bytes k b ws) (leaves_bytes k b vs) s.0.fits t.0.fits e in
+      let q : ws ≡ vs = alone ws vs s.1 t.1 (cancel (bytes_of (k.layout b) w) (leaves_bytes k b ws) (leaves_bytes k b vs) (e ∙ ap (λ z. bytes_of (k.layout b) z ++ leaves_bytes k b vs) (sym p))) in
       λ i. p i ∷ q i
 
-  pub encoded_sheets : EncodedSheets k y
-  encoded_sheets = record {
-    written = written;
-    read = λ n bytes h b g. read_of n bytes h b g (sheet_outcome k n bytes h) (comes k laws n bytes h);
-    alone = alone;
-  }
+pub written_sheets : {V L : Type 0} (k : Kind V L) → Laws k → WrittenSheets k
+written_sheets k laws = record { written = λ n b. written k laws b n; alone = λ b ws vs s t e. alone k laws b ws vs s t (ap (drop 1) e) }

@@ -1,52 +1,13 @@
 -- The loop over the leaves of a sheet.
-use Rattle.std.proofs.Common.{◌≡◌, ℕ, zero, suc, ◌+◌, ◌-◌, ◌<◌, ◌≤◌, cond, ltb, List, length, Some, None, Ok, Err, Option, sym, refl, ap, ◌∙◌, subst, arith}
-use Rattle.std.proofs.lemmas.Bool.{cond-true, cond-false, lt-ltb, le-ltb}
+use Rattle.std.proofs.Common.{◌≡◌, ℕ, ◌+◌, ◌<◌, length, Some, Ok, Err, Option, List, sym, refl, ap, ◌∙◌, subst, arith}
 use Rattle.faults.specs.declared.fault.Fault.{Fault}
-use Rattle.faults.specs.Faults.{Refused, Answer, found, refused, Fills}
+use Rattle.faults.specs.Faults.{Answer, found, refused, Fills}
 use Rattle.leaf.specs.Kind.{Kind, Laws, before}
-use Rattle.list.specs.Lists.{inserted}
-use Rattle.list.specs.Sheets.{Outcome, ends, after_leaf, judged, accepted_at, put_in, fed, sheet_outcome}
+use Rattle.list.specs.Sheets.{Outcome, ends, after_leaf, accepted_at, put_in, sheet_outcome}
 use Rattle.list.specs.declared.sheets.SheetAnswer.{SheetAnswer as Told}
 use Rattle.list.specs.Held.{held_of, places_of, stopped, SameTable, Unsettles, Tells}
 use Rattle.list.specs.declared.leaves.Leaves.{Leaves}
-use Rattle.list.proofs.Pouring.{accepted_read}
-
-module _ {L A : Type 0} where
-  judged_same : (a : Answer L) (f : Refused → A) (g h : L → ℕ → A) → ((x : L) (e : ℕ) → a ≡ found x e → g x e ≡ h x e) → judged a f g ≡ judged a f h
-  judged_same (found x e) f g h p = p x e refl
-  judged_same (refused r) f g h p = refl
-
-module _ {V L : Type 0} (k : Kind V L) (n : ℕ) (bytes : List ℕ) where
-  abbrev go : ℕ → ℕ → List L → Outcome L
-  go f at h = judged (accepted_at k n bytes at h) (λ r. ends at h (Some r)) (λ x e. after_leaf x (fed k n bytes f e (inserted (before k) x h)))
-
-  pub fed_end : (f at : ℕ) (h : List L) → length bytes ≤ at → fed k n bytes f at h ≡ ends at h None
-  fed_end zero at h l = refl
-  fed_end (suc f) at h l = cond-false (ltb at (length bytes)) (go f at h) (ends at h None) (le-ltb at (length bytes) l)
-
-  module _ (w : Laws k) where
-    -- more steps than bytes are left change nothing
-    fed_more : (f at : ℕ) (h : List L) → length bytes - at ≤ f → fed k n bytes f at h ≡ fed k n bytes (suc f) at h
-    fed_more zero at h l = sym (fed_end 1 at h (omega arith))
-    fed_more (suc f) at h l =
-        ap (λ o. cond (ltb at (length bytes)) o (ends at h None))
-        (judged_same (accepted_at k n bytes at h) (λ r. ends at h (Some r)) (λ x e. after_leaf x (fed k n bytes f e (inserted (before k) x h))) (λ x e. after_leaf x (fed k n bytes (suc f) e (inserted (before k) x h)))
-        (λ x e q. let b = accepted_read k w n bytes at h x e q in ap (after_leaf x) (fed_more f e (inserted (before k) x h) (omega arith))))
-
-    pub fed_leaf : (f at : ℕ) (h : List L) (x : L) (e : ℕ) → length bytes - at ≤ f → at < length bytes → accepted_at k n bytes at h ≡ found x e
-        → fed k n bytes f at h ≡ after_leaf x (fed k n bytes f e (inserted (before k) x h))
-    fed_leaf zero at h x e l m q = absurd (omega arith)
-    fed_leaf (suc f) at h x e l m q =
-        let b = accepted_read k w n bytes at h x e q in
-        cond-true (ltb at (length bytes)) (go f at h) (ends at h None) (lt-ltb at (length bytes) m)
-        ∙ ap (λ a. judged a (λ r. ends at h (Some r)) (λ x e. after_leaf x (fed k n bytes f e (inserted (before k) x h)))) q
-        ∙ ap (after_leaf x) (fed_more f e (inserted (before k) x h) (omega arith))
-
-  pub fed_stop : (f at : ℕ) (h : List L) (r : Refused) → length bytes - at ≤ f → at < length bytes → accepted_at k n bytes at h ≡ refused r → fed k n bytes f at h ≡ ends at h (Some r)
-  fed_stop zero at h r l m q = absurd (omega arith)
-  fed_stop (suc f) at h r l m q =
-      cond-true (ltb at (length bytes)) (go f at h) (ends at h None) (lt-ltb at (length bytes) m)
-      ∙ ap (λ a. judged a (λ r. ends at h (Some r)) (λ x e. after_leaf x (fed k n bytes f e (inserted (before k) x h)))) q
+use Rattle.list.proofs.Fed.{accepted_ends, left, left_leaf, left_stop}
 
 -- the outcome o is what a leaves accepted before have left to come, p
 pub record Extends {L : Type 0} (a : ℕ) (o p : Outcome L) : Type 0 where
@@ -85,15 +46,12 @@ module _ {V L : Type 0} where
   }
 
 module _ {V L : Type 0} (k : Kind V L) (w : Laws k) (bytes : List ℕ) (l₀ : Leaves V L) where
-  abbrev left : ℕ → List L → Outcome L
-  left at h = fed k (places_of l₀) bytes (length bytes) at h
-
   -- the list l₀ has taken a leaves, is now l, and goes on at `at`
   pub record Feeding (l : Leaves V L) (at a : ℕ) : Type 0 where
     pub table : SameTable l₀ l
     pub flag : Unsettles l₀ l
     pub fewer : a < at
-    pub sofar : Extends a (sheet_outcome k (places_of l₀) bytes (held_of l₀)) (left at (held_of l))
+    pub sofar : Extends a (sheet_outcome k (places_of l₀) bytes (held_of l₀)) (left k (places_of l₀) bytes at (held_of l))
 
   module _ (l : Leaves V L) (at a : ℕ) (s : Feeding l at a) where
     abbrev o : Outcome L
@@ -117,13 +75,13 @@ module _ {V L : Type 0} (k : Kind V L) (w : Laws k) (bytes : List ℕ) (l₀ : L
           at_one (found x d) q g =
               let de : d ≡ e = cc in
               let q' : accepted_at k (places_of l₀) bytes at (held_of l) ≡ found x e = here ∙ q ∙ ap (found x) de in
-              let b = accepted_read k w (places_of l₀) bytes at (held_of l) x e q' in
-              let step = fed_leaf k (places_of l₀) bytes w (length bytes) at (held_of l) x e (omega arith) m q' in
+              let b = accepted_ends k (places_of l₀) bytes w at (held_of l) x e q' in
+              let step = left_leaf k (places_of l₀) bytes w at (held_of l) x e m q' in
               record {
                 table = same_as l₀ l l' s.table t;
                 flag = flags;
                 fewer = omega (arith, s.fewer);
-                sofar = extends_on a o (left at (held_of l)) (left e (held_of l')) x s.sofar (step ∙ ap (λ h. after_leaf x (left e h)) (sym g.1));
+                sofar = extends_on a o (left k (places_of l₀) bytes at (held_of l)) (left k (places_of l₀) bytes e (held_of l')) x s.sofar (step ∙ ap (λ h. after_leaf x (left k (places_of l₀) bytes e h)) (sym g.1));
               }
 
       pub feeding_stop : (f : Fault) → Fills (put_in (before k) (held_of l) one) (held_of l) (held_of l') (Err f) → Fed o l₀ l' (record { accepted = a; start = at; fault = Some f })
@@ -132,6 +90,6 @@ module _ {V L : Type 0} (k : Kind V L) (w : Laws k) (bytes : List ℕ) (l₀ : L
           at_one : (b : Answer L) → one ≡ b → Fills (put_in (before k) (held_of l) b) (held_of l) (held_of l') (Err f) → Fed o l₀ l' (record { accepted = a; start = at; fault = Some f })
           at_one (found x d) q g = let z : ◌≡◌ {A = ℕ} 0 1 = cc in absurd (omega arith)
           at_one (refused r) q g =
-              let step = fed_stop k (places_of l₀) bytes (length bytes) at (held_of l) r (omega arith) m (here ∙ q) in
+              let step = left_stop k (places_of l₀) bytes at (held_of l) r m (here ∙ q) in
               fed_told l₀ l' at a (Some f) o (held_of l) (same_as l₀ l l' s.table t) flags g.1
               (subst (Extends a o) (step ∙ ap (λ r. ends at (held_of l) (Some r)) (sym g.0)) s.sofar)

@@ -1,5 +1,5 @@
 -- The lines of lawful leaves are lawful, in whatever order these stand.
-use Rattle.std.proofs.Common.{◌≡◌, ℕ, zero, suc, ◌<◌, Bool, List, [], ◌∷◌, length, slice_index_or, sym, subst, arith}
+use Rattle.std.proofs.Common.{◌≡◌, ℕ, zero, suc, ◌<◌, List, [], ◌∷◌, length, slice_index_or, sym, subst, arith}
 use Rattle.std.proofs.lemmas.Bool.{cond_both}
 use Rattle.leaf.specs.Kind.{Kind, Laws, Lawful, covers, touches}
 use Rattle.list.specs.Lists.{All, joined, joined_on}

@@ -11,12 +11,12 @@ pub mod Made
 pub mod Kept
 pub mod Reading
 pub mod OverKinds
+pub mod Fed
 pub mod Pouring
 pub mod Relations
 pub mod Running
 pub mod Steps
 pub mod Feeds
-pub mod Outcomes
 pub mod Encoded
-pub mod Stops
+pub mod Taking
 pub mod LawfulLines

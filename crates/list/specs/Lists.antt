@@ -27,6 +27,11 @@ module _ {X : Type 0} where
   inserted up x [] = x ∷ []
   inserted up x (y ∷ ys) = cond (any (λ z. up z x) (y ∷ ys)) (y ∷ inserted up x ys) (x ∷ (y ∷ ys))
 
+  -- one after the other
+  abbrev pub inserted_all : (X → X → Bool) → List X → List X → List X
+  inserted_all up [] ys = ys
+  inserted_all up (x ∷ xs) ys = inserted_all up xs (inserted up x ys)
+
   -- x was put into its place: behind all that are no later, before all that are later
   pub record Placed (up : X → X → Bool) (x : X) (xs ys : List X) : Type 0 where
     pub front : List X

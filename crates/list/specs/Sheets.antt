@@ -1,7 +1,7 @@
 -- What a sheet does to the leaves held: its leaves are inserted in turn, each once it is read, up to the sheet's end or a refusal.
 use Rattle.std.specs.Prelude.{ℕ, zero, suc, Bool, cond, List, [], ◌∷◌, length, Some, None, Option, nat_le, nat_lt}
 use Rattle.faults.specs.Faults.{Refused, Answer, found, refused, at_byte}
-use Rattle.leaf.specs.Kind.{Kind, before}
+use Rattle.leaf.specs.Kind.{Kind, before, leaf_at}
 use Rattle.list.specs.Lists.{inserted}
 
 -- the leaves accepted, what is then held, the first byte after the last accepted leaf, and what stopped the sheet
@@ -31,7 +31,7 @@ module _ {L : Type 0} where
 module _ {V L : Type 0} (k : Kind V L) (n : ℕ) (bytes : List ℕ) where
   -- the leaf at `at`, once it is read and there is a place for it, and its end
   abbrev pub accepted_at : ℕ → List L → Answer L
-  accepted_at at h = judged (k.reading bytes at) refused (λ x e. cond (is_full n h) (refused (at_byte 10 at)) (found x e))
+  accepted_at at h = judged (leaf_at k bytes at) refused (λ x e. cond (is_full n h) (refused (at_byte 10 at)) (found x e))
 
   -- from the leaf at `at` on; each leaf takes a byte at least, so as many steps suffice as there are bytes
   abbrev pub fed : ℕ → ℕ → List L → Outcome L

@@ -2,11 +2,12 @@ ghost use Rattle.std.specs.Prelude.{◌≡◌, ℕ, ◌<◌, ◌≤◌, List, le
 ghost use Rattle.std.specs.Result.{result_err};
 ghost use Rattle.faults.specs.Faults.{Fills, shown};
 ghost use Rattle.leaf.specs.Kind.{before};
+ghost use Rattle.list.specs.Encoded.{WrittenSheets};
 ghost use Rattle.list.specs.Held.{LeadsOn, SameTable, Sound, Tells, Unsettles, held_of, places_of};
-ghost use Rattle.list.specs.Outcomes.{SheetsStand};
 ghost use Rattle.list.specs.Runs.{after};
 ghost use Rattle.list.specs.Runs.Call.{sheet as call_sheet};
 ghost use Rattle.list.specs.Sheets.{accepted_at, ends, fed, put_in, sheet_outcome};
+ghost use Rattle.list.specs.Taking.{Takes};
 
 use crate::leaves::Leaves;
 use leaf::{Fault, Leaf, Refusal};
@@ -79,7 +80,8 @@ impl<'a, V: Copy, L: Leaf<V>> Leaves<'a, V, L> {
         ensures held { held_of self.new ≡ after L.kind (places_of self.old) (held_of self.old) (call_sheet bytes.now) }
         ensures sound { Sound L.kind self.old → Sound L.kind self.new }
         ensures run { LeadsOn L.kind (call_sheet bytes.now) self.old self.new }
-        ensures grammar { SheetsStand L.kind }
+        ensures takes { Takes L.kind bytes.now self.old self.new result }
+        ensures written { WrittenSheets L.kind }
     {
         let mut answer = SheetAnswer {
             accepted: 0,
