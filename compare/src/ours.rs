@@ -9,16 +9,30 @@ struct Divisors {
     refusal: u8,
 }
 
-/// What a sheet came to. `done` is false where memory ran out.
+/// How far a sheet was taken, and what stopped it.
 #[repr(C)]
 #[derive(Clone, Copy, Debug)]
-pub struct SheetText {
-    pub done: bool,
+pub struct Taken {
     pub accepted: usize,
     pub start: usize,
     pub refusal: u8,
     pub byte: usize,
-    pub length: usize,
+}
+
+#[repr(C)]
+#[derive(Clone, Copy)]
+struct Answer {
+    admitted: bool,
+    sheet: Taken,
+}
+
+/// What a sheet came to. `done` is false where memory ran out.
+#[repr(C)]
+#[derive(Clone, Copy)]
+struct SheetText {
+    done: bool,
+    sheet: Taken,
+    length: usize,
 }
 
 /// What a run of a list came to. `done` is false where memory ran out.
@@ -35,7 +49,7 @@ extern "C" {
     fn rule_lines_fold(written: *const Fraction, count: usize) -> Divisors;
     fn rule_lines_thin(written: *const Fraction, count: usize) -> Divisors;
     fn rule_lines_print(sheet: *const u8, bytes: usize, out: *mut u8, room: usize) -> SheetText;
-    fn rule_lines_admit(sheet: *const u8, bytes: usize, value: i64, read: bool) -> bool;
+    fn rule_lines_admit(sheet: *const u8, bytes: usize, value: i64, read: bool) -> Answer;
     fn rule_lines_make(places: usize, leaves: *const u8, bytes: usize) -> Run;
     fn rule_lines_run(places: usize, leaves: *const u8, bytes: usize, values: *const i64, count: usize, readings: usize) -> Run;
 }
@@ -59,20 +73,22 @@ pub fn thin(written: &[Fraction]) -> Result<Vec<Fraction>, u8> {
     kept(unsafe { rule_lines_thin(written.as_ptr(), written.len()) })
 }
 
-/// What a sheet comes to, and its text.
-pub fn print(sheet: &[u8]) -> (SheetText, String) {
+/// How far a sheet is taken, and the text of its lines and of what refused it.
+pub fn print(sheet: &[u8]) -> (Taken, String) {
     let mut out = vec![0; 128 * 600 + 600];
     // SAFETY: each pointer goes with the length of its slice, and `out` is lent for writing alone.
     let told = unsafe { rule_lines_print(sheet.as_ptr(), sheet.len(), out.as_mut_ptr(), out.len()) };
     assert!(told.done && told.length <= out.len(), "out of memory or room");
     out.truncate(told.length);
-    (told, String::from_utf8(out).expect("a text"))
+    (told.sheet, String::from_utf8(out).expect("a text"))
 }
 
 /// Whether a leaf of the sheet admits the amount; with `read` whether a line does.
 pub fn admit(sheet: &[u8], value: i64, read: bool) -> bool {
     // SAFETY: as in `fold`.
-    unsafe { rule_lines_admit(sheet.as_ptr(), sheet.len(), value, read) }
+    let answer = unsafe { rule_lines_admit(sheet.as_ptr(), sheet.len(), value, read) };
+    assert!(answer.sheet.refusal == 0, "a sheet was refused");
+    answer.admitted
 }
 
 /// Reads the leaves that the bytes hold into a table of so many places.

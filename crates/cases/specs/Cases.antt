@@ -1,10 +1,9 @@
--- What replaying cases comes to.
-use Rattle.std.specs.Prelude.{ℕ, Bool, true, false, cond, not, ◌&&◌, List, [], ◌∷◌, ◌++◌, length, count_by, codes, decimal, Some, None, Option, ◌==◌}
+-- The answer that a case expects of a list to its sheet.
+use Rattle.std.specs.Prelude.{ℕ, Bool, true, false, cond, List, [], length, Some, None, Option}
 use Rattle.std.specs.Str.{bytes_eq}
 use Rattle.leaf.specs.Kind.{Kind}
 use Rattle.hex_text.specs.Hex.{hex_of}
-use Rattle.notation.specs.Numbered.{numbered}
-use Rattle.notation.specs.Text.{is_dash, lines_of, split_at_first}
+use Rattle.notation.specs.Text.{is_dash, split_at_first}
 use Rattle.list.specs.Sheets.{sheet_outcome}
 use Rattle.amounts.specs.Amounts.{amounts}
 use Rattle.amounts.specs.Text.{line_text as amount_text}
@@ -38,26 +37,5 @@ answers_in None = false
 answers_in (Some p) = answers p.1 (bytes_of p.0)
 
 -- whether the sheet of a case has the answer that is expected of it
-abbrev pub holds : List ℕ → Bool
-holds line = answers_in (split_at_first 32 line)
-
--- neither a comment nor an empty line
-abbrev pub is_case : List ℕ → Bool
-is_case [] = false
-is_case (b ∷ bs) = not (b == 35)
-
--- a case whose answer is another
-abbrev pub differs : List ℕ → Bool
-differs line = is_case line && not (holds line)
-
--- what is printed of line k
-abbrev pub difference : ℕ → List ℕ → List ℕ
-difference k line = cond (differs line) (codes "line " ++ (decimal k ++ codes ": different\n")) []
-
--- how many of the lines are cases, and how many of them differ
-abbrev pub tally_text : List (List ℕ) → List ℕ
-tally_text lines = codes "replayed " ++ (decimal (count_by is_case lines) ++ (codes ", different " ++ (decimal (count_by differs lines) ++ codes "\n")))
-
--- what the program prints of its cases
-abbrev pub output_of : List ℕ → List ℕ
-output_of text = numbered difference 1 (lines_of text) ++ tally_text (lines_of text)
+abbrev pub is_as_expected : List ℕ → Bool
+is_as_expected line = answers_in (split_at_first 32 line)

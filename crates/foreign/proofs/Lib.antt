@@ -1,2 +1,4 @@
 pub mod Makes
 pub mod Counting
+pub mod Handing
+pub mod Inserting

@@ -1,5 +1,5 @@
 -- What a run of a list comes to.
-use Rattle.std.specs.Prelude.{◌≡◌, ℕ, zero, suc, List, [], ◌∷◌, length, map, filter}
+use Rattle.std.specs.Prelude.{◌≡◌, ℕ, zero, suc, false, List, [], ◌∷◌, length, map, filter}
 use Rattle.leaf.specs.Kind.{Kind, admits}
 use Rattle.list.specs.Lists.{any}
 use Rattle.list.specs.Runs.{reading, run}
@@ -23,3 +23,7 @@ module _ {V L : Type 0} (k : Kind V L) where
     pub leaves : r.leaves ≡ length (made_of n bytes 0)
     pub yes : r.yes ≡ length (filter (λ v. any (λ x. admits k x v) (run k n (map insert (made_of n bytes 0)))) values)
     pub lines : r.lines ≡ read_or_none readings (run k n (map insert (made_of n bytes 0)))
+
+-- nothing is told: all is zero
+abbrev pub CountsNothing : Run → Type 0
+CountsNothing r = r ≡ record { done = false; leaves = 0; yes = 0; lines = 0 }

@@ -4,9 +4,11 @@
 mod asking;
 mod lists;
 mod running;
+mod taken;
 mod text;
 
-pub use asking::rule_lines_admit;
+pub use asking::{Answer, rule_lines_admit};
 pub use lists::{Divisors, rule_lines_fold, rule_lines_thin};
 pub use running::{Run, rule_lines_make, rule_lines_run};
-pub use text::{SheetText, rule_lines_print};
+pub use taken::Taken;
+pub use text::{SheetText, rule_lines_print, rule_lines_rest};

@@ -1,13 +1,14 @@
 ghost use Rattle.divisors.specs.Rows.{fractions};
 ghost use Rattle.divisors.specs.Written.{FoldOf, ThinOf, refusal_of};
-ghost use Rattle.faults.specs.Faults.{shown};
-ghost use Rattle.foreign.specs.Shown.{Holds};
-ghost use Rattle.std.specs.Prelude.{◌≡◌, None, Some};
+ghost use Rattle.faults.specs.Faults.{number_of};
+ghost use Rattle.foreign.specs.Shown.{Hands, HandsNone, Holds};
+ghost use Rattle.std.specs.Prelude.{None, Some};
 
 use divisors::{Folded, Fraction, Row, Thinned};
 use faults::Fault;
 
-// A kept list of divisors, in the first `count` of six places; where the list as written was refused, the refusal's number and no divisor.
+/// A kept list of divisors, in the first `count` of six places, and 0/0 in the others. Where the list as written was refused, the number of
+/// what refused it, and no divisor.
 #[repr(C)]
 #[derive(Clone, Copy)]
 pub struct Divisors {
@@ -22,7 +23,7 @@ const NONE: Fraction = Fraction { p: 0, q: 0 };
 impl Divisors {
     // The fractions of a row.
     fn of_row(row: Row) -> Divisors
-        ensures { Holds None (λ xs. xs ≡ fractions row) result }
+        ensures { Hands (fractions row) result }
     {
         let list = row.fractions();
         let mut places = [NONE; 6];
@@ -36,7 +37,7 @@ impl Divisors {
 
     // No divisor, and why.
     fn refused(fault: Fault) -> Divisors
-        ensures { Holds (Some (shown fault)) (λ xs. xs ≡ xs) result }
+        ensures { HandsNone (number_of fault.refusal) result }
     {
         Divisors {
             places: [NONE; 6],
@@ -46,7 +47,7 @@ impl Divisors {
     }
 }
 
-// The folded list of required divisors as written.
+/// The folded list of required divisors as written; refused 5 where a part is 0 or above 2^63 − 1, else 6 where there are more than six.
 #[unsafe(no_mangle)]
 pub extern "C" fn rule_lines_fold(written: &[Fraction]) -> Divisors
     ensures { Holds (refusal_of written.now) (FoldOf written.now) result }
@@ -57,7 +58,7 @@ pub extern "C" fn rule_lines_fold(written: &[Fraction]) -> Divisors
     }
 }
 
-// The thinned list of barred divisors as written.
+/// The thinned list of barred divisors as written, refused as `rule_lines_fold` refuses.
 #[unsafe(no_mangle)]
 pub extern "C" fn rule_lines_thin(written: &[Fraction]) -> Divisors
     ensures { Holds (refusal_of written.now) (ThinOf written.now) result }

@@ -1,24 +1,28 @@
 ghost use Rattle.amounts.specs.Amounts.{amounts};
-ghost use Rattle.foreign.specs.Running.{Counts, made_of, read_or_none};
+ghost use Rattle.foreign.specs.Running.{Counts, CountsNothing, made_of, read_or_none};
 ghost use Rattle.leaf.specs.Kind.{Lawful, admits as admitted};
 ghost use Rattle.list.specs.Held.{Leads, SameTable, Settled, held_of};
 ghost use Rattle.list.specs.Lists.{All, any};
 ghost use Rattle.list.specs.Runs.{Call};
 ghost use Rattle.list.specs.Runs.Call.{insert};
-ghost use Rattle.std.specs.Prelude.{◌≡◌, ◌≤◌, true, List, ◌++◌, length, take, map, filter, IfOk};
+ghost use Rattle.std.specs.Bool.{OnFalse, OnTrue};
+ghost use Rattle.std.specs.Prelude.{◌≡◌, ◌≤◌, true, List, [], ◌++◌, length, take, map, filter, IfOk};
 
 use amounts::AmountLeaf;
 use leaf::Leaf;
 use list::Leaves;
 use std::alloc::{AllocError, Global};
 
-// What a run of a list came to. Where memory ran out, `done` is false and nothing else is told.
+/// What a run of a list came to. Where memory ran out, `done` is false and all else is zero.
 #[repr(C)]
 #[derive(Clone, Copy)]
 pub struct Run {
     pub done: bool,
+    /// How many leaves were read.
     pub leaves: usize,
+    /// How many of the questions were answered yes.
     pub yes: usize,
+    /// How many lines there were, 0 where the list was not read.
     pub lines: usize,
 }
 
@@ -51,11 +55,9 @@ fn insert_leaves<V: Copy, L: Leaf<V>>(list: &mut Leaves<V, L>, made: &[L])
     ensures table { SameTable list.old list.new }
     ensures run { (cs : List (Call V L)) → All (Lawful L.kind) made.now → Leads L.kind cs list.old → Leads L.kind (cs ++ map insert made.now) list.new }
 {
-    let [first, rest @ ..] = made else {
-        return;
-    };
-    let _ = list.insert(*first);
-    insert_leaves(list, rest);
+    for leaf in made {
+        let _ = list.insert(*leaf);
+    }
 }
 
 // How many of the values a held leaf admits.
@@ -94,7 +96,8 @@ fn run_list<V: Copy, L: Leaf<V>>(
     readings: usize,
 ) -> Run
     requires { length made.old ≡ length table.old }
-    ensures { Counts L.kind (length table.old) bytes.now values.now readings result }
+    ensures counts { Counts L.kind (length table.old) bytes.now values.now readings result }
+    ensures done { result.done ≡ true }
 {
     let leaves = read_leaves(bytes, made);
     let mut list = Leaves::open(table);
@@ -111,7 +114,7 @@ fn run_list<V: Copy, L: Leaf<V>>(
 
 // The leaves of amounts in the bytes read into a table on the heap.
 fn make_amounts(heap: Global, places: usize, bytes: &[u8]) -> Result<Run, AllocError>
-    ensures { IfOk result (λ r. r.leaves ≡ length (made_of amounts places bytes.now 0)) }
+    ensures { IfOk result (λ r. Counts amounts places bytes.now [] 0 r × (r.done ≡ true)) }
 {
     let mut made = Vec::from_elem(heap, AmountLeaf::blank(), places)?;
     Ok(Run {
@@ -130,23 +133,25 @@ fn run_amounts(
     values: &[i64],
     readings: usize,
 ) -> Result<Run, AllocError>
-    ensures { IfOk result (λ r. Counts amounts places bytes.now values.now readings r) }
+    ensures { IfOk result (λ r. Counts amounts places bytes.now values.now readings r × (r.done ≡ true)) }
 {
     let mut made = Vec::from_elem(heap, AmountLeaf::blank(), places)?;
     let mut table = Vec::from_elem(heap, AmountLeaf::blank(), places)?;
     Ok(run_list(&mut made, &mut table, bytes, values, readings))
 }
 
-// How many amount leaves stand one after the other in the bytes, at most so many as there are places: what a run begins with, for who times one.
+/// How many amount leaves stand one after the other in the bytes, at most so many as there are places: what a run begins with, for who times
+/// one.
 #[unsafe(no_mangle)]
 pub extern "C" fn rule_lines_make(heap: Global, places: usize, bytes: &[u8]) -> Run
-    ensures { result.done ≡ true → result.leaves ≡ length (made_of amounts places bytes.now 0) }
+    ensures counts { OnTrue result.done (Counts amounts places bytes.now [] 0 result) }
+    ensures nothing { OnFalse result.done (CountsNothing result) }
 {
     make_amounts(heap, places, bytes).unwrap_or(NOT_DONE)
 }
 
-// Amount leaves that stand one after the other in the bytes go into a new list of so many places, then come the questions, then so many readings:
-// how many leaves, yeses and lines there were.
+/// Amount leaves that stand one after the other in the bytes go into a new list of so many places, then come the questions, then so many
+/// readings: how many leaves, yeses and lines there were.
 #[unsafe(no_mangle)]
 pub extern "C" fn rule_lines_run(
     heap: Global,
@@ -155,7 +160,8 @@ pub extern "C" fn rule_lines_run(
     values: &[i64],
     readings: usize,
 ) -> Run
-    ensures { result.done ≡ true → Counts amounts places bytes.now values.now readings result }
+    ensures counts { OnTrue result.done (Counts amounts places bytes.now values.now readings result) }
+    ensures nothing { OnFalse result.done (CountsNothing result) }
 {
     run_amounts(heap, places, bytes, values, readings).unwrap_or(NOT_DONE)
 }

@@ -41,6 +41,11 @@ abbrev pub one_more_if : Option Refused → ℕ → ℕ
 one_more_if None n = n
 one_more_if (Some r) n = sum_to n 1
 
+-- nothing more is counted or remarked
+pub record SameNotes (u t : Taken) : Type 0 where
+  pub counts : t ≡ record u { remarks = t.remarks }
+  pub remarks : vec_items t.remarks ≡ vec_items u.remarks
+
 -- behind what was noted stands a remark, and so many are refused and malformed
 pub record Notes (u t : Taken) (refusals others : ℕ) (remark : List ℕ) : Type 0 where
   pub refused : t.refused ≡ refusals

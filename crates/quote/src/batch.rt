@@ -1,9 +1,9 @@
 ghost use Rattle.list.specs.Held.{stopped};
 ghost use Rattle.quote.specs.Batch.{batch_lines, bytes_in, line_with};
 ghost use Rattle.quote.specs.Quotation.{malformed_remark, refusal_remark};
-ghost use Rattle.quote.specs.Taking.{Completes, Follows, Holds, Stands, Tells, one_more_if, sum_to};
+ghost use Rattle.quote.specs.Taking.{Completes, Follows, Holds, SameNotes, Stands, Tells, one_more_if, sum_to};
 ghost use Rattle.std.specs.Option.{option_map};
-ghost use Rattle.std.specs.Prelude.{◌≡◌, ℕ, ◌<◌, ◌^◌, List, [], ◌∷◌, ◌++◌, length, IfOk, OnOk, vec_items};
+ghost use Rattle.std.specs.Prelude.{◌≡◌, ℕ, ◌<◌, ◌^◌, List, [], ◌∷◌, ◌++◌, length, IfOk, OnErr, OnOk, vec_items};
 
 use amounts::AmountLeaf;
 use days::DayLeaf;
@@ -12,8 +12,6 @@ use list::{Leaves, SheetAnswer};
 use notation::{Lines, find, front};
 use sheets::is_of_days;
 use std::alloc::{AllocError, Global};
-use std::io;
-use std::io::Write;
 use texts::append_line;
 
 // How much of a batch was taken, and what there is to remark.
@@ -41,30 +39,35 @@ impl Taken {
     }
 
     // Counts line `k`, which is not hexadecimal.
-    fn note_malformed(&mut self, k: usize) -> io::Result<()>
-        ensures counts { self.new ≡ record self.old { malformed = sum_to self.old.malformed 1; remarks = self.new.remarks } }
+    fn note_malformed(&mut self, heap: Global, k: usize) -> Result<(), AllocError>
+        ensures counts { OnOk result (self.new ≡ record self.old { malformed = sum_to self.old.malformed 1; remarks = self.new.remarks }) }
         ensures remarks { OnOk result (vec_items self.new.remarks ≡ vec_items self.old.remarks ++ malformed_remark k) }
+        ensures err { OnErr result (SameNotes self.old self.new) }
     {
+        let remark = format!(in heap; "line {k}: not hexadecimal\n")?;
+        self.remarks.extend_from_slice(remark.as_bytes())?;
         self.malformed = self.malformed.saturating_add(1);
-        writeln!(self.remarks, "line {k}: not hexadecimal")
+        Ok(())
     }
 
     // Counts the sheet of line `k`, and remarks what refused it.
-    fn note_sheet(&mut self, k: usize, answer: SheetAnswer) -> io::Result<()>
-        ensures sheets { self.new.sheets ≡ sum_to self.old.sheets 1 }
-        ensures accepted { self.new.accepted ≡ sum_to self.old.accepted answer.accepted }
-        ensures refused { self.new.refused ≡ one_more_if (stopped answer.fault) self.old.refused }
-        ensures malformed { self.new.malformed ≡ self.old.malformed }
+    fn note_sheet(&mut self, heap: Global, k: usize, answer: SheetAnswer) -> Result<(), AllocError>
+        ensures sheets { OnOk result (self.new.sheets ≡ sum_to self.old.sheets 1) }
+        ensures accepted { OnOk result (self.new.accepted ≡ sum_to self.old.accepted answer.accepted) }
+        ensures refused { OnOk result (self.new.refused ≡ one_more_if (stopped answer.fault) self.old.refused) }
+        ensures malformed { OnOk result (self.new.malformed ≡ self.old.malformed) }
         ensures remarks { OnOk result (vec_items self.new.remarks ≡ vec_items self.old.remarks ++ refusal_remark self.new.sheets k (stopped answer.fault)) }
+        ensures err { OnErr result (SameNotes self.old self.new) }
     {
-        self.sheets = self.sheets.saturating_add(1);
-        self.accepted = self.accepted.saturating_add(answer.accepted);
+        let sheet = self.sheets.saturating_add(1);
         if let Some(fault) = answer.fault {
+            let mut remark = format!(in heap; "sheet {sheet} on line {k}: ")?.into_bytes();
+            append_line(&mut remark, &fault)?;
+            self.remarks.extend_from_slice(&remark)?;
             self.refused = self.refused.saturating_add(1);
-            let sheet = self.sheets;
-            write!(self.remarks, "sheet {sheet} on line {k}: ")?;
-            append_line(&mut self.remarks, &fault)?;
         }
+        self.sheets = sheet;
+        self.accepted = self.accepted.saturating_add(answer.accepted);
         Ok(())
     }
 }
@@ -100,16 +103,17 @@ fn take_line(
     amounts: &mut Leaves<'_, i64, AmountLeaf>,
     days: &mut Leaves<'_, u32, DayLeaf>,
     taken: &mut Taken,
-) -> io::Result<()>
-    ensures { (before : List (List ℕ)) → Stands before taken.old amounts.old days.old → length before < 2 ^ 63
+) -> Result<(), AllocError>
+    ensures follows { (before : List (List ℕ)) → Stands before taken.old amounts.old days.old → length before < 2 ^ 63
         → OnOk result (Follows before k (line_with (bytes_in line.now)) taken.old taken.new amounts.new days.new) }
+    ensures err { OnErr result (SameNotes taken.old taken.new) }
 {
     match bytes_in(heap, line)? {
-        None => taken.note_malformed(k),
+        None => taken.note_malformed(heap, k),
         Some(sheet) if sheet.is_empty() => Ok(()),
         Some(sheet) => {
             let answer = take_sheet(&sheet, amounts, days);
-            taken.note_sheet(k, answer)
+            taken.note_sheet(heap, k, answer)
         }
     }
 }
@@ -120,7 +124,7 @@ pub(crate) fn take_batch(
     batch: &[u8],
     amounts: &mut Leaves<'_, i64, AmountLeaf>,
     days: &mut Leaves<'_, u32, DayLeaf>,
-) -> io::Result<Taken>
+) -> Result<Taken, AllocError>
     requires { Holds [] amounts.old days.old }
     ensures { IfOk result (λ t. Completes (batch_lines batch.now) t amounts.new days.new) }
 {

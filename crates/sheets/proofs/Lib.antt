@@ -1,4 +1,5 @@
 pub mod Pieces
 pub mod Works
 pub mod Encoded
+pub mod GoingOn
 pub mod TooLong

@@ -3,6 +3,8 @@
 
 mod output;
 mod printing;
+mod rest;
 
 pub use output::Printed;
 pub use printing::{is_of_days, print_sheet};
+pub use rest::put_rest;

@@ -1,4 +1,4 @@
-ghost use Rattle.std.specs.Prelude.{◌≡◌, ◌≤◌, [], ◌∷◌, ◌++◌, length, take, IfOk, OnOk};
+ghost use Rattle.std.specs.Prelude.{◌≡◌, ◌≤◌, [], ◌∷◌, ◌++◌, length, take, IfOk, OnErr, OnOk};
 ghost use Rattle.list.specs.Held.{Tells, stopped};
 ghost use Rattle.list.specs.Runs.{Promised};
 ghost use Rattle.list.specs.Runs.Call.{sheet as call-sheet};
@@ -40,7 +40,8 @@ fn take_sheet<V: Copy, L: Leaf<V>>(table: &mut [L], sheet: &[u8]) -> Taken
 
 // What refused the sheet, if anything did, behind what is there.
 fn append_stop(text: &mut Vec<u8>, stop: Option<Fault>) -> Result<(), AllocError>
-    ensures { OnOk result (text.new.items ≡ text.old.items ++ stop_text (stopped stop)) }
+    ensures ok { OnOk result (text.new.items ≡ text.old.items ++ stop_text (stopped stop)) }
+    ensures err { OnErr result (text.new.items ≡ text.old.items) }
 {
     match stop {
         None => Ok(()),

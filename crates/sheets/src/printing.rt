@@ -1,6 +1,6 @@
 ghost use Rattle.sheets.specs.Encoded.{SheetsInBytes};
 ghost use Rattle.sheets.specs.Output.{Prints, is_of_days, prints_sheet};
-ghost use Rattle.sheets.specs.Worked.{WorkedLists};
+ghost use Rattle.sheets.specs.Worked.{ListsWorkedByHand};
 ghost use Rattle.std.specs.Prelude.{◌≡◌, IfOk};
 
 use crate::output::{Printed, output_of};
@@ -23,7 +23,7 @@ pub fn is_of_days(sheet: &[u8]) -> bool
 pub fn print_sheet(heap: Global, sheet: &[u8]) -> Result<Printed, AllocError>
     ensures prints { IfOk result (λ p. prints_sheet sheet.now p) }
     ensures encoded { SheetsInBytes }
-    ensures worked { WorkedLists }
+    ensures worked { ListsWorkedByHand }
 {
     // A table for each kind, and not one generic function: of a table of any kind it is not known that it fits in memory.
     if is_of_days(sheet) {

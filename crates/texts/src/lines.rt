@@ -1,4 +1,5 @@
-ghost use Rattle.std.specs.Prelude.{◌≡◌, ℕ, ◌≤◌, List, ◌++◌, length, OnOk};
+ghost use Rattle.std.specs.Io.{StartsWith};
+ghost use Rattle.std.specs.Prelude.{◌≡◌, ℕ, ◌≤◌, List, ◌++◌, length, OnErr, OnOk};
 ghost use Rattle.texts.specs.Cursors.{Put};
 ghost use Rattle.texts.specs.Text.{Texted, together};
 
@@ -29,9 +30,14 @@ pub trait Line {
     }
 }
 
-// A line behind what is there.
+/// A line and its line feed behind what is there.
+///
+/// # Errors
+///
+/// Where memory runs out; nothing is appended then.
 pub fn append_line<L: Line>(out: &mut Vec<u8>, line: &L) -> Result<(), AllocError>
-    ensures { OnOk result (out.new.items ≡ out.old.items ++ L.Line.text line.now) }
+    ensures ok { OnOk result (out.new.items ≡ out.old.items ++ L.Line.text line.now) }
+    ensures err { OnErr result (out.new.items ≡ out.old.items) }
 {
     let mut buf = [0; ROOM];
     let mut cursor = Cursor {
@@ -43,9 +49,14 @@ pub fn append_line<L: Line>(out: &mut Vec<u8>, line: &L) -> Result<(), AllocErro
     out.extend_from_slice(&buf[..end])
 }
 
-// The lines one after the other behind what is there.
+/// The lines one after the other behind what is there.
+///
+/// # Errors
+///
+/// Where memory runs out; some of the lines may stand behind what was there then.
 pub fn append_lines<L: Line>(out: &mut Vec<u8>, lines: &[L]) -> Result<(), AllocError>
-    ensures { OnOk result (out.new.items ≡ out.old.items ++ together L.Line.text lines.now) }
+    ensures ok { OnOk result (out.new.items ≡ out.old.items ++ together L.Line.text lines.now) }
+    ensures err { OnErr result (StartsWith out.new.items out.old.items) }
 {
     for line in lines {
         append_line(out, line)?;

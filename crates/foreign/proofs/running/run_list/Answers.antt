@@ -9,8 +9,8 @@ use Rattle.foreign.specs.Running.{made_of, read_or_none}
 use Rattle.foreign.proofs.Makes.{made_lawful}
 use Rattle.foreign.proofs.running.run_list.Goals as goal
 
-pub returns : goal.returns
-returns g c =
+pub returns-clause-counts : goal.returns-clause-counts
+returns-clause-counts g c =
     let k = g.L.Leaf.kind in
     let n : ℕ = length c.args.table.now in
     let b = c.args.bytes.now in

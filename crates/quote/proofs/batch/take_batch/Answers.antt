@@ -39,7 +39,7 @@ loop-k-preserved c =
       fits = next_fits it c.next.new.self c.in-Some.k c.in-Some.line.now c.loop-k.invariant.fits h.0.0 h.0.1 h.1;
       left =
           turn (batch_lines text) few c.loop-k.taken c.take_line.new.taken c.loop-k.amounts c.take_line.new.amounts c.loop-k.days c.take_line.new.days c.in-Some.k (number c.next.new.self)
-          (read c.in-Some.line.now) left_now (map read (left it)) was (ap (map read) h.1) h.0.1 (c.in_ok-take_line.ensures was.before was.stands before);
+          (read c.in-Some.line.now) left_now (map read (left it)) was (ap (map read) h.1) h.0.1 (c.in_ok-take_line.ensures.follows was.before was.stands before);
     }
 
 pub returns : goal.returns

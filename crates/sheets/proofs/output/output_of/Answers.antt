@@ -10,5 +10,5 @@ returns g c =
     let written : vec_items c.append_lines.new.out ≡ vec_items c.new-text.result ++ together g.L.Line.text shown = search rules in
     record {
       answer = taken.answer;
-      output = printed g.L.Leaf.kind g.L.Line.text _ _ shown _ _ _ _ c.new-text.ensures.items written c.in_ok-append_stop.ensures taken.promised.given taken.answer.fault;
+      output = printed g.L.Leaf.kind g.L.Line.text _ _ shown _ _ _ _ c.new-text.ensures.items written c.in_ok-append_stop.ensures.ok taken.promised.given taken.answer.fault;
     }

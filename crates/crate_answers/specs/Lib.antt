@@ -1,0 +1,5 @@
+pub mod Outcomes
+pub mod Lines
+pub mod Folds
+pub mod Admissions
+pub mod Answers
