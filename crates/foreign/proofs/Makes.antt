@@ -3,7 +3,9 @@ use Rattle.std.proofs.Common.{◌≡◌, ℕ, zero, suc, ◌+◌, ◌-◌, ◌<�
 use Rattle.std.proofs.lemmas.List.{append_assoc, append-nil, take_more_set, take-set}
 use Rattle.faults.specs.declared.fault.Fault.{Fault}
 use Rattle.faults.specs.Faults.{Answer, found, refused, Fills}
-use Rattle.leaf.specs.Kind.{Kind, Laws, Lawful, WellRead}
+use Rattle.leaf.specs.Grammar.{WellRead}
+use Rattle.leaf.specs.Kind.{Kind, Laws, Lawful, leaf_at}
+use Rattle.leaf.specs.Laws.Judging.{well_read}
 use Rattle.list.specs.Lists.{All}
 use Rattle.list.specs.Sheets.{judged}
 use Rattle.foreign.specs.Running.{made_of}
@@ -21,22 +23,22 @@ module _ {V L : Type 0} (k : Kind V L) (bytes : List ℕ) where
   met_err n (refused r) old new g f = refl
 
   module _ (m n at : ℕ) (xs : List L) (old new : L) (h : n < m) where
-    next : made_of k (m - n) bytes at ≡ met (m - (n + 1)) (k.reading bytes at)
+    next : made_of k (m - n) bytes at ≡ met (m - (n + 1)) (leaf_at k bytes at)
     next = let e : m - n ≡ suc (m - (n + 1)) = omega arith in ap (λ i. made_of k i bytes at) e
 
     -- one leaf more
-    pub made_more : (end : ℕ) → length xs ≡ m → Fills (k.reading bytes at) old new (Ok end)
+    pub made_more : (end : ℕ) → length xs ≡ m → Fills (leaf_at k bytes at) old new (Ok end)
         → take (n + 1) (slice_set xs n new) ++ made_of k (m - (n + 1)) bytes end ≡ take n xs ++ made_of k (m - n) bytes at
     made_more end l f =
         let rest = made_of k (m - (n + 1)) bytes end in
         ap (λ ys. ys ++ rest) (take_more_set xs n new (omega (arith, l, h)))
         ∙ append_assoc (take n xs) (new ∷ []) rest
-        ∙ ap (λ ys. take n xs ++ ys) (sym (next ∙ met_ok (m - (n + 1)) (k.reading bytes at) old new end f))
+        ∙ ap (λ ys. take n xs ++ ys) (sym (next ∙ met_ok (m - (n + 1)) (leaf_at k bytes at) old new end f))
 
     -- and none after a refusal
-    pub made_all : (g : Fault) → Fills (k.reading bytes at) old new (Err g) → take n (slice_set xs n new) ≡ take n xs ++ made_of k (m - n) bytes at
+    pub made_all : (g : Fault) → Fills (leaf_at k bytes at) old new (Err g) → take n (slice_set xs n new) ≡ take n xs ++ made_of k (m - n) bytes at
     made_all g f =
-        take-set xs n new ∙ sym (append-nil (take n xs)) ∙ ap (λ ys. take n xs ++ ys) (sym (next ∙ met_err (m - (n + 1)) (k.reading bytes at) old new g f))
+        take-set xs n new ∙ sym (append-nil (take n xs)) ∙ ap (λ ys. take n xs ++ ys) (sym (next ∙ met_err (m - (n + 1)) (leaf_at k bytes at) old new g f))
 
   -- what is read is lawful
   module _ (w : Laws k) where
@@ -46,4 +48,4 @@ module _ {V L : Type 0} (k : Kind V L) (bytes : List ℕ) where
 
     pub made_lawful : (n at : ℕ) → All (Lawful k) (made_of k n bytes at)
     made_lawful zero at = tt
-    made_lawful (suc n) at = lawful_met n at (k.reading bytes at) (made_lawful n) (w.well_read bytes at)
+    made_lawful (suc n) at = lawful_met n at (leaf_at k bytes at) (made_lawful n) (well_read k w bytes at)

@@ -1,6 +1,6 @@
 -- What a run of a list comes to.
 use Rattle.std.specs.Prelude.{◌≡◌, ℕ, zero, suc, false, List, [], ◌∷◌, length, map, filter}
-use Rattle.leaf.specs.Kind.{Kind, admits}
+use Rattle.leaf.specs.Kind.{Kind, admits, leaf_at}
 use Rattle.list.specs.Lists.{any}
 use Rattle.list.specs.Runs.{reading, run}
 use Rattle.list.specs.Runs.Call.{insert}
@@ -11,7 +11,7 @@ module _ {V L : Type 0} (k : Kind V L) where
   -- the leaves that stand one after the other from a byte on, at most n of them, up to one that is refused
   abbrev pub made_of : ℕ → List ℕ → ℕ → List L
   made_of zero bytes at = []
-  made_of (suc n) bytes at = judged (k.reading bytes at) (λ r. []) (λ x e. x ∷ made_of n bytes e)
+  made_of (suc n) bytes at = judged (leaf_at k bytes at) (λ r. []) (λ x e. x ∷ made_of n bytes e)
 
   -- how many lines a reading of the leaves leaves; without a reading none are counted
   abbrev pub read_or_none : ℕ → List L → ℕ

@@ -1,5 +1,4 @@
 pub mod Pieces
 pub mod Works
-pub mod Encoded
 pub mod GoingOn
 pub mod TooLong

@@ -1,4 +1,3 @@
 pub mod Output
-pub mod Encoded
 pub mod Rest
 pub mod Worked

@@ -1,4 +1,3 @@
-ghost use Rattle.sheets.specs.Encoded.{SheetsInBytes};
 ghost use Rattle.sheets.specs.Output.{Prints, is_of_days, prints_sheet};
 ghost use Rattle.sheets.specs.Worked.{ListsWorkedByHand};
 ghost use Rattle.std.specs.Prelude.{◌≡◌, IfOk};
@@ -22,10 +21,8 @@ pub fn is_of_days(sheet: &[u8]) -> bool
 // What a sheet comes to: one that does not begin as a sheet of days is taken as one of amounts.
 pub fn print_sheet(heap: Global, sheet: &[u8]) -> Result<Printed, AllocError>
     ensures prints { IfOk result (λ p. prints_sheet sheet.now p) }
-    ensures encoded { SheetsInBytes }
     ensures worked { ListsWorkedByHand }
 {
-    // A table for each kind, and not one generic function: of a table of any kind it is not known that it fits in memory.
     if is_of_days(sheet) {
         output_of(heap, &mut [DayLeaf::blank(); PLACES], sheet)
     } else {

@@ -4,8 +4,7 @@ use Rattle.std.proofs.lemmas.Bool.{and_parts, both_ways}
 use Rattle.divisors.specs.declared.row.Row.{Row}
 use Rattle.divisors.specs.declared.thinned.Thinned.{Thinned}
 use Rattle.divisors.specs.Rows.{fractions, is_folded, is_thinned}
-use Rattle.amounts.specs.Amounts.{is_bound}
-use Rattle.amounts.specs.Leaves.{is_window}
+use Rattle.amounts.specs.Leaves.{is_bound, is_window}
 use Rattle.amounts.proofs.amount_leaf.AmountLeaf.barred.Goals as goal
 
 -- the list made of the row is that of the row
