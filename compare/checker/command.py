@@ -28,10 +28,9 @@ COUNT = 20_000
 
 def at_least_one(text: str) -> int:
     """The whole number of an option that has to be at least 1."""
-    number = int(text)
-    if number < 1:
-        raise ValueError(text)
-    return number
+    if not text.isdecimal() or int(text) < 1:
+        raise argparse.ArgumentTypeError(f"{text} is no whole number from 1 on")
+    return int(text)
 
 
 def options(arguments: Optional[Sequence[str]]) -> argparse.Namespace:

@@ -97,12 +97,14 @@ def leaves_of_a_kind(rng: Random, count: int) -> Sequence[LeafAsWritten]:
 
 
 def spoilt(rng: Random, leaf: LeafAsWritten) -> LeafAsWritten:
-    """The leaf with a part that is refused, or that lies at the limit of what is."""
+    """The leaf with a part or more that is refused, or that lies at the limit of what is."""
     return spoilt_amounts(rng, leaf) if isinstance(leaf, AmountLeafAsWritten) else spoilt_days(rng, leaf)
 
 
 def spoilt_amounts(rng: Random, leaf: AmountLeafAsWritten) -> AmountLeafAsWritten:
-    """An amount leaf with such a part."""
+    """An amount leaf with such parts."""
+    if rng.random() < 0.3:
+        leaf = spoilt_amounts(rng, leaf)
     part = rng.choice(("minimum", "maximum", "window", "required", "barred"))
     if part in ("minimum", "maximum"):
         magnitude = rng.choice((0, HIGHEST, HIGHEST + 1, HIGHEST + 2, 2**64 - 1, 2**64))
@@ -121,7 +123,9 @@ def spoilt_amounts(rng: Random, leaf: AmountLeafAsWritten) -> AmountLeafAsWritte
 
 
 def spoilt_days(rng: Random, leaf: DayLeafAsWritten) -> DayLeafAsWritten:
-    """A day leaf with such a part."""
+    """A day leaf with such parts."""
+    if rng.random() < 0.3:
+        leaf = spoilt_days(rng, leaf)
     part = rng.choice(("minimum", "maximum", "window", "weekdays"))
     if part in ("minimum", "maximum"):
         return replace(leaf, **{part: draw.no_date(rng)})
@@ -129,4 +133,4 @@ def spoilt_days(rng: Random, leaf: DayLeafAsWritten) -> DayLeafAsWritten:
         minimum = draw.day(rng)
         below = draw.clamp(minimum - rng.choice((0, 1, 1, 50)), 0, draw.LAST_DAY)
         return replace(leaf, minimum=draw.written_date(minimum), maximum=draw.written_date(below))
-    return replace(leaf, weekdays=rng.choice((0, 127, 128, 129, 255, 2**64 - 1)))
+    return replace(leaf, weekdays=rng.choice((0, 0, 127, 128, 129, 255, 2**64 - 1)))

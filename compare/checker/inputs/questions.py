@@ -82,11 +82,9 @@ def day_question(rng: Random) -> bytes:
 
 
 def spoilt_question(rng: Random) -> bytes:
-    """A question of which the leaf or the date has a part that is refused or at the limit of what is."""
+    """A question of which the leaf or the date has parts that are refused or at the limit of what is."""
     if rng.random() < 0.6:
         amounts = leaves.spoilt_amounts(rng, leaves.amount_leaves(rng, 1)[0])
-        if rng.random() < 0.3:
-            amounts = leaves.spoilt_amounts(rng, amounts)
         return f"{leaf_text(amounts)} {asked_amount(rng, amounts)}".encode()
     days = leaves.day_leaves(rng, 1)[0]
     if rng.random() < 0.8:
