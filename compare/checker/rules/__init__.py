@@ -1,0 +1,1 @@
+"""The rules of docs/RULES.md: what every program has to answer."""

@@ -1,0 +1,1 @@
+"""Runs: the programs are built and run on inputs, and what they print is compared with what the rules say."""
