@@ -9,7 +9,7 @@ use Rattle.divisors.specs.Rows.{fractions, row_of}
 use Rattle.divisors.specs.Written.{FoldOf, ThinOf, are_in_range, barred_of, refusal_of, required_of}
 use Rattle.faults.specs.Faults.{found, refused, at_byte}
 use Rattle.leaf.specs.Kind.{Lawful, WellRead, is_bound, is_value_window}
-use Rattle.leaf.proofs.Chains.{next_both}
+use Rattle.leaf.specs.Laws.Chains.{next_both}
 use Rattle.amounts.specs.Amounts.{amounts}
 use Rattle.amounts.specs.Leaves.{is_window, leaf_of}
 use Rattle.amounts.specs.Meaning.{Means}
