@@ -3,12 +3,12 @@ ghost use Rattle.amounts.specs.Leaves.{barred, leaf_of, required};
 ghost use Rattle.amounts.specs.Making.{MakerJudged, made_of};
 ghost use Rattle.amounts.specs.Meaning.{Means, value_of};
 ghost use Rattle.amounts.specs.Worked.{WorkedLeaves};
-ghost use Rattle.divisors.specs.Rows.{fractions, is_folded, is_thinned};
+ghost use Rattle.divisors.specs.Kept.{FoldedIn, ThinnedIn, barred_in, required_in};
 ghost use Rattle.divisors.specs.Written.{refusal_of};
 ghost use Rattle.faults.specs.Faults.{told};
 ghost use Rattle.leaf.specs.Kind.{Lawful, is_value_window};
 ghost use Rattle.std.specs.Option.{IsSomeAnd};
-ghost use Rattle.std.specs.Prelude.{◌≡◌, true, false, IfOk, MatchOption, None, OnOk};
+ghost use Rattle.std.specs.Prelude.{◌≡◌, true, IfOk, None, OnOk};
 
 use crate::amount::WrittenAmount;
 use divisors::{Folded, Fraction, Row, Thinned, check};
@@ -60,16 +60,16 @@ impl AmountLeaf {
 
     /// The folded list of required divisors; `None` for a leaf that is not lawful, as no call gives one.
     pub fn required(&self) -> Option<Folded>
-        ensures folded { MatchOption result (is_folded self.now.required ≡ false) (λ f. f.row ≡ self.now.required) }
-        ensures lawful { Lawful amounts self.now → IsSomeAnd result (λ f. fractions f.row ≡ required self.now) }
+        ensures folded { FoldedIn self.now.required result }
+        ensures lawful { Lawful amounts self.now → IsSomeAnd result (λ f. required_in f ≡ required self.now) }
     {
         Folded::from_row(self.required)
     }
 
     /// The thinned list of barred divisors; `None` for a leaf that is not lawful, as no call gives one.
     pub fn barred(&self) -> Option<Thinned>
-        ensures thinned { MatchOption result (is_thinned self.now.barred ≡ false) (λ f. f.row ≡ self.now.barred) }
-        ensures lawful { Lawful amounts self.now → IsSomeAnd result (λ f. fractions f.row ≡ barred self.now) }
+        ensures thinned { ThinnedIn self.now.barred result }
+        ensures lawful { Lawful amounts self.now → IsSomeAnd result (λ t. barred_in t ≡ barred self.now) }
     {
         Thinned::from_row(self.barred)
     }

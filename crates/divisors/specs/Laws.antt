@@ -28,14 +28,20 @@ pub record TestsMean : Type 0 where
 pub record OrderLaws : Type 0 where
   pub reflexive : (xs : List Fraction) → at_most xs xs ≡ true
   pub total : (xs ys : List Fraction) → (at_most xs ys ≡ true) ⊎ (at_most ys xs ≡ true)
-  pub transitive : (xs ys zs : List Fraction) → AreReduced xs → AreReduced ys → AreReduced zs → at_most xs ys ≡ true → at_most ys zs ≡ true → at_most xs zs ≡ true
-  pub antisymmetric : (xs ys : List Fraction) → AreReduced xs → AreReduced ys → at_most xs ys ≡ true → at_most ys xs ≡ true → xs ≡ ys
+  pub transitive :
+      (xs ys zs : List Fraction) → AreReduced xs → AreReduced ys → AreReduced zs →
+      at_most xs ys ≡ true → at_most ys zs ≡ true → at_most xs zs ≡ true
+  pub antisymmetric :
+      (xs ys : List Fraction) → AreReduced xs → AreReduced ys → at_most xs ys ≡ true → at_most ys xs ≡ true → xs ≡ ys
 
 -- the laws of a relation `covers` on the lists that are `kept`, where `lets` says which integers a list lets through
-pub record CoverLaws (kept : List Fraction → Type 0) (covers : List Fraction → List Fraction → Bool) (lets : List Fraction → ℤ → Type 0) : Type 0 where
+pub record CoverLaws
+    (kept : List Fraction → Type 0) (covers : List Fraction → List Fraction → Bool) (lets : List Fraction → ℤ → Type 0)
+    : Type 0 where
   pub reduced : (xs : List Fraction) → kept xs → AreReduced xs
   pub reflexive : (xs : List Fraction) → kept xs → covers xs xs ≡ true
-  pub transitive : (xs ys zs : List Fraction) → kept xs → kept zs → covers xs ys ≡ true → covers ys zs ≡ true → covers xs zs ≡ true
+  pub transitive :
+      (xs ys zs : List Fraction) → kept xs → kept zs → covers xs ys ≡ true → covers ys zs ≡ true → covers xs zs ≡ true
   pub antisymmetric : (xs ys : List Fraction) → kept xs → kept ys → covers xs ys ≡ true → covers ys xs ≡ true → xs ≡ ys
   -- a covered list lets nothing through that the covering one does not
   pub no_more : (xs ys : List Fraction) → kept xs → kept ys → covers xs ys ≡ true → (v : ℤ) → lets ys v → lets xs v

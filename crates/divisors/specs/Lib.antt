@@ -8,6 +8,7 @@ pub mod Settled
 pub mod Dividing
 pub mod Rows
 pub mod Written
+pub mod Kept
 pub mod Laws
 pub mod Lemmas
 pub mod Lawful

@@ -36,9 +36,13 @@ abbrev pub place_of : Fraction → List Fraction → ℕ
 place_of f [] = 0
 place_of f (x ∷ xs) = cond (lower x f) (suc (place_of f xs)) 0
 
+-- whether f stands at place k
+abbrev pub stands_at : Fraction → ℕ → List Fraction → Bool
+stands_at f k xs = nat_lt k (length xs) && same (slice_index_or xs k none) f
+
 -- whether f stands at its place in an ascending list
 abbrev pub stands : Fraction → List Fraction → Bool
-stands f xs = nat_lt (place_of f xs) (length xs) && same (slice_index_or xs (place_of f xs) none) f
+stands f xs = stands_at f (place_of f xs) xs
 
 -- f in its place in an ascending list, once
 unfoldable pub put : Fraction → List Fraction → List Fraction

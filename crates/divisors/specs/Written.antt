@@ -22,6 +22,10 @@ refusal_of_both rs bs =
     (cond (nat_le (length rs) 6 && nat_le (length bs) 6) None (Some (unplaced 6)))
     (Some (unplaced 5))
 
+-- what is refused of one more in a row: 6 where six are held
+abbrev pub refusal_of_more : List Fraction → Option Refused
+refusal_of_more fs = cond (nat_lt (length fs) 6) None (Some (unplaced 6))
+
 -- in lowest terms, those with a numerator above n
 abbrev pub lowest_above : ℕ → List Fraction → List Fraction
 lowest_above n ws = filter (λ f. nat_lt n f.p) (map reduce_of ws)

@@ -1,6 +1,6 @@
 ghost use Rattle.std.specs.Prelude.{◌≡◌, ◌+◌, ◌<◌, ◌≤◌, true, ◌&&◌, [], ◌∷◌, ◌++◌, length, nat_lt, slice_index_or, slice_set};
 ghost use Rattle.divisors.specs.Fractions.{none, same};
-ghost use Rattle.divisors.specs.Lists.{IsTidy, Tidies, are_reduced, place_of, put, tidy_of};
+ghost use Rattle.divisors.specs.Lists.{IsTidy, Tidies, are_reduced, place_of, put, stands_at, tidy_of};
 ghost use Rattle.divisors.specs.Rows.{fractions, held, padded};
 ghost use Rattle.divisors.specs.Written.{are_in_range, lowest_above};
 ghost use Rattle.std.specs.List.{insert, remove};
@@ -89,7 +89,7 @@ impl Working {
     // Whether `f` stands at a place.
     fn has_at(&self, at: usize, f: Fraction) -> bool
         requires { self.now.count ≤ 12 }
-        ensures { result ≡ (nat_lt at (length (held self.now)) && same (slice_index_or (held self.now) at none) f) }
+        ensures { result ≡ stands_at f at (held self.now) }
     {
         at < self.count && self.items[at] == f
     }

@@ -1,8 +1,8 @@
 ghost use Rattle.divisors.specs.Laws.{KeptLaws, WorkedFolds};
-ghost use Rattle.divisors.specs.Rows.{fractions, is_folded};
+ghost use Rattle.divisors.specs.Rows.{is_folded};
 ghost use Rattle.divisors.specs.Written.{FoldOf, refusal_of};
 ghost use Rattle.faults.specs.Faults.{refused_with};
-ghost use Rattle.std.specs.Prelude.{◌≡◌, true, false, IfOk, MatchOption, OnOk};
+ghost use Rattle.std.specs.Prelude.{◌≡◌, true, IfOk, OnOk};
 
 use crate::fraction::Fraction;
 use crate::row::Row;
@@ -17,12 +17,14 @@ pub struct Folded {
 }
 
 impl Folded {
+    ghost use Rattle.divisors.specs.Kept.{FoldedIn, required_in};
+
     /// The folded list of divisors as written.
     ///
     /// Refused with 5 where a part is 0 or above 2^63 - 1, else with 6 where there are more than six.
     pub fn over_integers(ws: &[Fraction]) -> Result<Folded, Fault>
         ensures refuses { refused_with result ≡ refusal_of ws.now }
-        ensures folds { IfOk result (λ f. FoldOf ws.now (fractions f.row)) }
+        ensures folds { IfOk result (λ f. FoldOf ws.now (required_in f)) }
         ensures worked { OnOk result (WorkedFolds) }
     {
         check_list(ws)?;
@@ -34,7 +36,7 @@ impl Folded {
     /// The folded list that a plain row holds, if it holds one.
     #[tactic(auto, using(crate::specs::Lawful::kept_laws))]
     pub fn from_row(row: Row) -> Option<Folded>
-        ensures holds { MatchOption result (is_folded row ≡ false) (λ f. f.row ≡ row) }
+        ensures holds { FoldedIn row result }
         ensures laws { KeptLaws }
     {
         if !is_folded(&row) {

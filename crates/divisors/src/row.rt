@@ -3,9 +3,9 @@ ghost use Rattle.divisors.specs.Fractions.{is_multiple};
 ghost use Rattle.divisors.specs.Laws.{BarredLaws, OrderLaws, RequiredLaws};
 ghost use Rattle.divisors.specs.Lists.{at_most, every, sole_of, some, tidy_of};
 ghost use Rattle.divisors.specs.Rows.{fractions, padded};
-ghost use Rattle.divisors.specs.Written.{Admits, Spares, lowest_above};
-ghost use Rattle.faults.specs.Faults.{refused_with, unplaced};
-ghost use Rattle.std.specs.Prelude.{◌≡◌, ◌≤◌, ◌↔◌, true, false, [], ◌∷◌, ◌++◌, length, if◌then◌else◌, nat_lt, IsTrue, OnErr, OnOk, unsigned_abs};
+ghost use Rattle.divisors.specs.Written.{Admits, Spares, lowest_above, refusal_of_more};
+ghost use Rattle.faults.specs.Faults.{refused_with};
+ghost use Rattle.std.specs.Prelude.{◌≡◌, ◌≤◌, ◌↔◌, true, false, [], ◌∷◌, ◌++◌, length, IsTrue, OnErr, OnOk, unsigned_abs};
 
 use crate::fraction::Fraction;
 use faults::{Fault, Refusal};
@@ -58,7 +58,7 @@ impl Row {
     /// Refused with 6 where six are held.
     #[tactic(auto, using(crate::proofs::Padded::padded_more))]
     pub fn push(&mut self, f: Fraction) -> Result<(), Fault>
-        ensures refuses { refused_with result ≡ (if nat_lt (length (fractions self.old)) 6 then None else Some (unplaced 6)) }
+        ensures refuses { refused_with result ≡ refusal_of_more (fractions self.old) }
         ensures pushes { OnOk result (fractions self.new ≡ fractions self.old ++ f ∷ []) }
         ensures padded { padded self.old ≡ true → padded self.new ≡ true }
         ensures kept { OnErr result (self.new ≡ self.old) }

@@ -1,8 +1,8 @@
 ghost use Rattle.divisors.specs.Laws.{KeptLaws};
-ghost use Rattle.divisors.specs.Rows.{fractions, is_thinned};
+ghost use Rattle.divisors.specs.Rows.{is_thinned};
 ghost use Rattle.divisors.specs.Written.{ThinOf, refusal_of};
 ghost use Rattle.faults.specs.Faults.{refused_with};
-ghost use Rattle.std.specs.Prelude.{◌≡◌, true, false, IfOk, MatchOption};
+ghost use Rattle.std.specs.Prelude.{◌≡◌, true, IfOk};
 
 use crate::fraction::Fraction;
 use crate::row::Row;
@@ -17,12 +17,14 @@ pub struct Thinned {
 }
 
 impl Thinned {
+    ghost use Rattle.divisors.specs.Kept.{ThinnedIn, barred_in};
+
     /// The thinned list of divisors as written.
     ///
     /// Refused with 5 where a part is 0 or above 2^63 - 1, else with 6 where there are more than six.
     pub fn undivided(ws: &[Fraction]) -> Result<Thinned, Fault>
         ensures refuses { refused_with result ≡ refusal_of ws.now }
-        ensures thins { IfOk result (λ f. ThinOf ws.now (fractions f.row)) }
+        ensures thins { IfOk result (λ t. ThinOf ws.now (barred_in t)) }
     {
         check_list(ws)?;
         Ok(Thinned {
@@ -33,7 +35,7 @@ impl Thinned {
     /// The thinned list that a plain row holds, if it holds one.
     #[tactic(auto, using(crate::specs::Lawful::kept_laws))]
     pub fn from_row(row: Row) -> Option<Thinned>
-        ensures holds { MatchOption result (is_thinned row ≡ false) (λ f. f.row ≡ row) }
+        ensures holds { ThinnedIn row result }
         ensures laws { KeptLaws }
     {
         if !is_thinned(&row) {

@@ -1,7 +1,7 @@
 -- What a line of the input comes to.
 use Rattle.std.specs.Prelude.{ℕ, ◌+◌, ◌-◌, ◌^◌, min, Bool, true, false, cond, List, length, count_by, take, drop, Some, None, Ok, Err, Option, Result, nat_lt}
 use Rattle.divisors.specs.declared.fraction.Fraction.{Fraction}
-use Rattle.divisors.specs.Rows.{fractions}
+use Rattle.divisors.specs.Kept.{barred_in, required_in}
 use Rattle.divisors.specs.Written.{barred_of, refusal_of_both, required_of}
 use Rattle.faults.specs.Faults.{Refused as Refusal, number_of}
 use Rattle.notation.specs.Text.{divisors_of, index_of}
@@ -35,7 +35,7 @@ outcome_of line =
 
 -- the outcome that an answer says, where memory did not run out
 abbrev pub said : Result (Folded × Thinned) (Objection Wrong) → Option Outcome
-said (Ok p) = Some (lists (fractions p.0.row) (fractions p.1.row))
+said (Ok p) = Some (lists (required_in p.0) (barred_in p.1))
 said (Err (Refused f)) = Some (refused (number_of f.refusal))
 said (Err (Malformed w)) = Some (malformed w)
 said (Err (OutOfMemory e)) = None
