@@ -1,4 +1,5 @@
 pub mod Texts
+pub mod WrittenDates
 pub mod Means
 pub mod Making
 pub mod Works

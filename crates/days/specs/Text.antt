@@ -1,9 +1,9 @@
 -- The text of a line: minimum, maximum and weekdays, one space between; `*` is an absent bound, a weekday is a digit from 1 for Monday on.
-use Rattle.std.specs.Prelude.{ℕ, zero, suc, ◌+◌, ◌-◌, ◌/◌, ◌%◌, cond, List, [], ◌∷◌, ◌++◌, Some, None, Option, nat_le}
+use Rattle.std.specs.Prelude.{◌≡◌, ℕ, zero, suc, ◌+◌, ◌-◌, ◌/◌, ◌%◌, true, cond, List, [], ◌∷◌, ◌++◌, Some, None, Option, nat_le}
 use Rattle.leaf.specs.Numbers.{has_bit}
 use Rattle.days.specs.declared.calendar.Date.{Date}
 use Rattle.days.specs.declared.day_leaf.DayLeaf.{DayLeaf}
-use Rattle.days.specs.Calendar.{before, is_day_number, leap, year_start}
+use Rattle.days.specs.Calendar.{before, day_of, is_day_number, leap, year_start}
 
 -- how many of f 1, .., f k are at most n
 unfoldable pub reached : (ℕ → ℕ) → ℕ → ℕ → ℕ
@@ -35,6 +35,17 @@ date_text d = two_digits (d.year / 100) ++ (two_digits d.year ++ (45 ∷ (two_di
 abbrev pub bound_text : Option ℕ → List ℕ
 bound_text None = 42 ∷ []
 bound_text (Some n) = cond (is_day_number n) (date_text (date_of n)) (42 ∷ [])
+
+-- what is written of days
+pub record WrittenDates : Type 0 where
+  -- each day's number is that of a date,
+  pub each_day : (n : ℕ) → is_day_number n ≡ true → (d : Date) × (day_of d.year d.month d.day ≡ Some n)
+  -- and it is that date which is written of it
+  pub date : (d : Date) (n : ℕ) → day_of d.year d.month d.day ≡ Some n → bound_text (Some n) ≡ date_text d
+
+-- shut, so that callers go by the equation alone
+unfoldable pub DatesStand : Type 0
+DatesStand = WrittenDates
 
 -- the digit of weekday k, Monday being 0, if it is in the set
 abbrev pub weekday_text : ℕ → ℕ → List ℕ

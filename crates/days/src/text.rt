@@ -1,5 +1,5 @@
 ghost use Rattle.std.specs.Prelude.{◌<◌, ◌≤◌, length};
-ghost use Rattle.days.specs.Text.{bound_text, date_text, line_text, two_digits, weekday_text, weekdays_text};
+ghost use Rattle.days.specs.Text.{DatesStand, bound_text, date_text, line_text, two_digits, weekday_text, weekdays_text};
 ghost use Rattle.texts.specs.Cursors.{Put};
 ghost use Rattle.texts.specs.Text.{Texted};
 
@@ -74,10 +74,12 @@ impl Line for DayLeaf {
 }
 
 impl DayLeaf {
-    // The leaf's line and a line feed at the front of the buffer, whose rest stays; refusal 11 where it is under 600 bytes. The trait's call,
-    // for users that do not name `Line`.
+    /// The leaf's line and a line feed at the front of the buffer, whose rest stays; refusal 11 where it is under 600 bytes. The trait's call,
+    /// for users that do not name `Line`.
+    #[tactic(auto, using(crate::proofs::WrittenDates::dates_stand))]
     pub fn write_line(&self, buf: &mut [u8]) -> Result<usize, Fault>
-        ensures { Texted (line_text self.now) buf.old buf.new result }
+        ensures text { Texted (line_text self.now) buf.old buf.new result }
+        ensures dates { DatesStand }
     {
         Line::write_line(self, buf)
     }
