@@ -1,9 +1,8 @@
 -- Sheets that are written from leaves.
-use Rattle.std.specs.Prelude.{◌≡◌, ℕ, zero, suc, ◌+◌, ◌-◌, ◌<◌, ◌≤◌, true, cond, List, [], ◌∷◌, ◌++◌, length, take, drop, Some, None, Option, nat_le, refl}
+use Rattle.std.specs.Prelude.{◌≡◌, ℕ, suc, ◌+◌, ◌-◌, ◌<◌, ◌≤◌, true, cond, List, [], ◌∷◌, ◌++◌, length, take, drop, Some, None, Option, nat_le, refl}
 use Rattle.std.proofs.Common.{sym, ap, subst, ◌∙◌, arith, length-drop}
 use Rattle.std.proofs.lemmas.Bool.{cond_both, cond-true, cond-false, le-leb, lt-leb}
-use Rattle.std.proofs.lemmas.List.{append-nil, append_assoc, length-append, length-map, length-take, take-append-drop}
-use Rattle.std.proofs.Math.Dec.{leb-suc-suc}
+use Rattle.std.proofs.lemmas.List.{append-nil, append_assoc, append_cancel_left, length-append, length-map, length-take, take-append-drop}
 use Rattle.faults.specs.Faults.{Refused, found, at_byte}
 use Rattle.leaf.specs.Kind.{Kind, Laws, before, leaf_at}
 use Rattle.leaf.specs.Grammar.{WellRead}
@@ -30,7 +29,7 @@ abbrev pub accepted_before : {L : Type 0} → List L → Outcome L → Outcome L
 accepted_before xs o = record { taken = xs ++ o.taken; held = o.held; start = o.start; stop = o.stop }
 
 module _ {V L : Type 0} (k : Kind V L) (laws : Laws k) (b : ℕ) where
-  bytes_append : (ws vs : List k.Written) → leaves_bytes k b (ws ++ vs) ≡ leaves_bytes k b ws ++ leaves_bytes k b vs
+  pub bytes_append : (ws vs : List k.Written) → leaves_bytes k b (ws ++ vs) ≡ leaves_bytes k b ws ++ leaves_bytes k b vs
   bytes_append [] vs = refl
   bytes_append (w ∷ ws) vs = ap (λ (xs : List ℕ). bytes_of (k.layout b) w ++ xs) (bytes_append ws vs) ∙ sym (append_assoc (bytes_of (k.layout b) w) (leaves_bytes k b ws) (leaves_bytes k b vs))
 
@@ -71,22 +70,13 @@ module _ {V L : Type 0} (k : Kind V L) (laws : Laws k) (b : ℕ) where
         ∙ (ap (after_leaf x) (leaves_stand ws (front ++ c) rest h' s.1 (q ∙ (e ∙ sym f)) (omega (arith, r, g)))
         ∙ ap (λ (xs : List ℕ). after_leaf x (accepted_before (leaves_of k b ws) (goes (length xs) (inserted_all (before k) (leaves_of k b ws) h')))) (append_assoc (b ∷ front) c (leaves_bytes k b ws))))
 
-  -- what stops a sheet at the first of the leaves for which there is no place
-  abbrev past : List k.Written → ℕ → Option Refused
-  past [] at = None
-  past (v ∷ vs) at = Some (at_byte 10 at)
-
-  past_is : (n : ℕ) (ws : List k.Written) (at : ℕ) → past (drop n ws) at ≡ cond (nat_le (length ws) n) None (Some (at_byte 10 at))
-  past_is zero [] at = refl
-  past_is (suc n) [] at = sym (cond-true (nat_le 0 (suc n)) None (Some (at_byte 10 at)) (le-leb 0 (suc n) (omega arith)))
-  past_is zero (w ∷ ws) at = sym (cond-false (nat_le (length (w ∷ ws)) 0) None (Some (at_byte 10 at)) (lt-leb (length (w ∷ ws)) 0 (omega arith)))
-  past_is (suc n) (w ∷ ws) at = past_is n ws at ∙ ap (λ t. cond t None (Some (at_byte 10 at))) (sym (leb-suc-suc (length ws) n))
-
   -- behind the leaves for which there were places
   rest_is : (n : ℕ) (bytes : List ℕ) (ts ds : List k.Written) (g : List L) → All (IsLeaf k b) ds → bytes ≡ sheet_bytes k b ts ++ leaves_bytes k b ds → (0 < length ds → n ≤ length g)
-      → left k n bytes (length (sheet_bytes k b ts)) g ≡ ends (length (sheet_bytes k b ts)) g (past ds (length (sheet_bytes k b ts)))
-  rest_is n bytes ts [] g s q f = left_end k n bytes (length (sheet_bytes k b ts)) g (let m = ap length q in let i = length-append (sheet_bytes k b ts) [] in omega (arith, m, i))
-  rest_is n bytes ts (d ∷ ds) g s q f =
+      → (o : Option Refused) → (length ds ≡ 0 → o ≡ None) → (0 < length ds → o ≡ Some (at_byte 10 (length (sheet_bytes k b ts)))) → left k n bytes (length (sheet_bytes k b ts)) g ≡ ends (length (sheet_bytes k b ts)) g o
+  rest_is n bytes ts [] g s q f o u v =
+      let at = length (sheet_bytes k b ts) in
+      left_end k n bytes at g (let m = ap length q in let i = length-append (sheet_bytes k b ts) [] in omega (arith, m, i)) ∙ ap (ends at g) (sym (u refl))
+  rest_is n bytes ts (d ∷ ds) g s q f o u v =
       let at = length (sheet_bytes k b ts) in
       let c = bytes_of (k.layout b) d in
       let m = ap length q in
@@ -95,6 +85,7 @@ module _ {V L : Type 0} (k : Kind V L) (laws : Laws k) (b : ℕ) where
       let p = some_bytes d s.0 in
       left_stop k n bytes at g (at_byte 10 at) (omega (arith, m, i, j, p))
       (accepted_full k n bytes at g (written_leaf (k.layout b) d) (at + length c) (leaf_stands bytes (leaves_bytes k b ts) (leaves_bytes k b ds) d s.0 q) (le-leb n (length g) (f (omega arith))))
+      ∙ ap (ends at g) (sym (v (omega arith)))
 
   written : (n : ℕ) (ws : List k.Written) (h : List L) → k.kind_byte b ≡ true → All (IsLeaf k b) ws → length (sheet_bytes k b ws) ≤ 32768 → sheet_outcome k n (sheet_bytes k b ws) h ≡ written_outcome k b n ws h
   written n ws h t s l =
@@ -104,6 +95,8 @@ module _ {V L : Type 0} (k : Kind V L) (laws : Laws k) (b : ℕ) where
       let ds = drop room ws in
       let g = inserted_all (before k) (leaves_of k b ts) h in
       let start = length (sheet_bytes k b ts) in
+      let stop = Some (at_byte 10 start) in
+      let full = nat_le (length ws) room in
       let (st, sd) = all_append_parts (IsLeaf k b) ts ds (subst (All (IsLeaf k b)) (sym (take-append-drop room ws)) s) in
       let e : bytes ≡ sheet_bytes k b ts ++ leaves_bytes k b ds = ap (λ (xs : List ℕ). b ∷ xs) (ap (leaves_bytes k b) (sym (take-append-drop room ws)) ∙ bytes_append ts ds) in
       let lt = length-take room ws in
@@ -111,12 +104,9 @@ module _ {V L : Type 0} (k : Kind V L) (laws : Laws k) (b : ℕ) where
       let lg : length g ≡ length h + length ts = all_longer k (leaves_of k b ts) h ∙ ap (λ (j : ℕ). length h + j) (length-map ts (written_leaf (k.layout b))) in
       sheet_begun k n bytes h (record { short = l; some = omega arith; of_kind = t })
       ∙ (leaves_stand n bytes ts [] (leaves_bytes k b ds) h st e (omega (arith, lt))
-      ∙ (ap (accepted_before (leaves_of k b ts)) (rest_is n bytes ts ds g sd e (λ i. omega (arith, i, lt, ld, lg)))
-      ∙ λ i. record { taken = append-nil (leaves_of k b ts) i; held = g; start = start; stop = past_is room ws start i }))
-
-  cancel : (xs ys zs : List ℕ) → xs ++ ys ≡ xs ++ zs → ys ≡ zs
-  cancel [] ys zs e = e
-  cancel (x ∷ xs) ys zs e = cancel xs ys zs (ap (drop 1) e)
+      ∙ (ap (accepted_before (leaves_of k b ts)) (rest_is n bytes ts ds g sd e (λ i. omega (arith, i, lt, ld, lg)) (cond full None stop)
+      (λ i. cond-true full None stop (le-leb (length ws) room (omega (arith, i, ld)))) (λ i. cond-false full None stop (lt-leb (length ws) room (omega (arith, i, ld)))))
+      ∙ λ i. record { taken = append-nil (leaves_of k b ts) i; held = g; start = start; stop = cond full None stop }))
 
   alone : (ws vs : List k.Written) → All (IsLeaf k b) ws → All (IsLeaf k b) vs → leaves_bytes k b ws ≡ leaves_bytes k b vs → ws ≡ vs
   alone [] [] s t e = refl
@@ -124,7 +114,7 @@ module _ {V L : Type 0} (k : Kind V L) (laws : Laws k) (b : ℕ) where
   alone (w ∷ ws) [] s t e = absurd (let p = some_bytes w s.0 in let l = ap length e in let a = length-append (bytes_of (k.layout b) w) (leaves_bytes k b ws) in omega (arith, p, l, a))
   alone (w ∷ ws) (v ∷ vs) s t e =
       let p : w ≡ v = (leaf_grammar k laws).alone b w v (leaves_bytes k b ws) (leaves_bytes k b vs) s.0.fits t.0.fits e in
-      let q : ws ≡ vs = alone ws vs s.1 t.1 (cancel (bytes_of (k.layout b) w) (leaves_bytes k b ws) (leaves_bytes k b vs) (e ∙ ap (λ z. bytes_of (k.layout b) z ++ leaves_bytes k b vs) (sym p))) in
+      let q : ws ≡ vs = alone ws vs s.1 t.1 (append_cancel_left (bytes_of (k.layout b) w) (leaves_bytes k b ws) (leaves_bytes k b vs) (e ∙ ap (λ z. bytes_of (k.layout b) z ++ leaves_bytes k b vs) (sym p))) in
       λ i. p i ∷ q i
 
 pub written_sheets : {V L : Type 0} (k : Kind V L) → Laws k → WrittenSheets k

@@ -1,5 +1,5 @@
 -- The leaves of a sheet, one after the other, from its first byte on.
-use Rattle.std.proofs.Common.{◌≡◌, ℕ, zero, suc, ◌+◌, ◌-◌, ◌<◌, ◌≤◌, true, false, cond, ltb, List, [], ◌∷◌, length, Some, None, refl, sym, ap, ◌∙◌, subst, arith}
+use Rattle.std.proofs.Common.{◌≡◌, ℕ, zero, suc, ◌+◌, ◌-◌, ◌<◌, ◌≤◌, Bool, true, false, cond, ltb, List, [], ◌∷◌, length, Some, None, refl, sym, ap, ◌∙◌, subst, arith}
 use Rattle.std.proofs.lemmas.Bool.{cond_both, cond-true, cond-false, lt-ltb, le-ltb, ltb-true, ltb-false, true≢false}
 use Rattle.faults.specs.Faults.{Refused, Answer, found, refused, at_byte}
 use Rattle.leaf.specs.Kind.{Kind, Laws, before, first_of, leaf_at}
@@ -32,17 +32,13 @@ module _ {V L : Type 0} (k : Kind V L) (n : ℕ) (bytes : List ℕ) where
   pub accepted_not : (at : ℕ) (h : List L) (f : Refused) → leaf_at k bytes at ≡ refused f → accepted_at k n bytes at h ≡ refused f
   accepted_not at h f q = ap (accepts h at) q
 
-  -- the same from the answer back
-  pub data Accepts (at : ℕ) (h : List L) : Answer L → Type 0 where
-    read : {x : L} {e : ℕ} → leaf_at k bytes at ≡ found x e → is_full n h ≡ false → Accepts at h (found x e)
-    unread : {f : Refused} → leaf_at k bytes at ≡ refused f → Accepts at h (refused f)
-    full : {x : L} {e : ℕ} → leaf_at k bytes at ≡ found x e → is_full n h ≡ true → Accepts at h (refused (at_byte 10 at))
-
-  pub accepted : (at : ℕ) (h : List L) → Accepts at h (accepted_at k n bytes at h)
-  accepted at h =
-      judged_both (Accepts at h) (leaf_at k bytes at) refused (λ x e. cond (is_full n h) (refused (at_byte 10 at)) (found x e))
-      (λ r q. unread q)
-      (λ x e q. cond_both (is_full n h) (refused (at_byte 10 at)) (found x e) (Accepts at h) (λ t. full q t) (λ t. read q t))
+  accepted_found : (at : ℕ) (h : List L) (x : L) (e : ℕ) → accepted_at k n bytes at h ≡ found x e → leaf_at k bytes at ≡ found x e
+  accepted_found at h x e = by (leaf_at k bytes at) (is_full n h)
+    where
+      by : (a : Answer L) (b : Bool) → judged a refused (λ x e. cond b (refused (at_byte 10 at)) (found x e)) ≡ found x e → a ≡ found x e
+      by (found y d) false q = q
+      by (found y d) true q = cc
+      by (refused r) b q = cc
 
   -- what comes of the leaves from one on
   abbrev pub left : ℕ → List L → Outcome L
@@ -69,14 +65,12 @@ module _ {V L : Type 0} (k : Kind V L) (n : ℕ) (bytes : List ℕ) where
   left_stop at h r m q = fed_stop (length bytes) at h r (omega arith) m q
 
   module _ (w : Laws k) where
-    -- a leaf ends past its start and within the sheet
-    pub accepted_ends : (at : ℕ) (h : List L) (x : L) (e : ℕ) → accepted_at k n bytes at h ≡ found x e → WellRead k bytes at (found x e)
-    accepted_ends at h x e q = by (accepted_at k n bytes at h) (accepted at h) q
-      where
-        by : (a : Answer L) → Accepts at h a → a ≡ found x e → WellRead k bytes at (found x e)
-        by _ (read r f) i = subst (WellRead k bytes at) (r ∙ i) (well_read k w bytes at)
-        by _ (unread r) i = let z : ◌≡◌ {A = ℕ} 0 1 = cc in absurd (omega arith)
-        by _ (full r f) i = let z : ◌≡◌ {A = ℕ} 0 1 = cc in absurd (omega arith)
+    -- a leaf that is read is lawful, and ends past its start and within the sheet
+    pub read_well : (at : ℕ) (x : L) (e : ℕ) → leaf_at k bytes at ≡ found x e → WellRead k bytes at (found x e)
+    read_well at x e q = subst (WellRead k bytes at) q (well_read k w bytes at)
+
+    pub accepted_well : (at : ℕ) (h : List L) (x : L) (e : ℕ) → accepted_at k n bytes at h ≡ found x e → WellRead k bytes at (found x e)
+    accepted_well at h x e q = read_well at x e (accepted_found at h x e q)
 
     -- more steps than bytes are left change nothing
     fed_more : (steps at : ℕ) (h : List L) → length bytes - at ≤ steps → fed k n bytes steps at h ≡ fed k n bytes (suc steps) at h
@@ -84,32 +78,37 @@ module _ {V L : Type 0} (k : Kind V L) (n : ℕ) (bytes : List ℕ) where
     fed_more (suc steps) at h l =
         ap (λ o. cond (ltb at (length bytes)) o (ends at h None))
         (judged_same (accepted_at k n bytes at h) (λ r. ends at h (Some r)) (λ x e. after_leaf x (fed k n bytes steps e (inserted (before k) x h))) (λ x e. after_leaf x (fed k n bytes (suc steps) e (inserted (before k) x h)))
-        (λ x e q. let b = accepted_ends at h x e q in ap (after_leaf x) (fed_more steps e (inserted (before k) x h) (omega arith))))
+        (λ x e q. let b = accepted_well at h x e q in ap (after_leaf x) (fed_more steps e (inserted (before k) x h) (omega arith))))
 
     fed_leaf : (steps at : ℕ) (h : List L) (x : L) (e : ℕ) → length bytes - at ≤ steps → at < length bytes → accepted_at k n bytes at h ≡ found x e
         → fed k n bytes steps at h ≡ after_leaf x (fed k n bytes steps e (inserted (before k) x h))
     fed_leaf zero at h x e l m q = absurd (omega arith)
     fed_leaf (suc steps) at h x e l m q =
-        let b = accepted_ends at h x e q in
+        let b = accepted_well at h x e q in
         fed_on steps at h m ∙ (ap (go steps h at) q ∙ ap (after_leaf x) (fed_more steps e (inserted (before k) x h) (omega arith)))
 
     pub left_leaf : (at : ℕ) (h : List L) (x : L) (e : ℕ) → at < length bytes → accepted_at k n bytes at h ≡ found x e → left at h ≡ after_leaf x (left e (inserted (before k) x h))
     left_leaf at h x e m q = fed_leaf (length bytes) at h x e (omega arith) m q
 
-    -- what holds at the end of the leaves, at a refusal, and of a leaf before what follows it, holds from each leaf on
+    -- what holds at the end of the leaves, at a leaf that is not read or has no place, and of a leaf before what follows it, holds from each leaf on
     module _ (P : ℕ → List L → Outcome L → Type 0)
         (over : (at : ℕ) (h : List L) → length bytes ≤ at → P at h (ends at h None))
-        (stop : (at : ℕ) (h : List L) (r : Refused) → at < length bytes → accepted_at k n bytes at h ≡ refused r → P at h (ends at h (Some r)))
-        (one : (at : ℕ) (h : List L) (x : L) (e : ℕ) (o : Outcome L) → at < length bytes → accepted_at k n bytes at h ≡ found x e → P e (inserted (before k) x h) o → P at h (after_leaf x o)) where
+        (unread : (at : ℕ) (h : List L) (r : Refused) → at < length bytes → leaf_at k bytes at ≡ refused r → P at h (ends at h (Some r)))
+        (full : (at : ℕ) (h : List L) (x : L) (e : ℕ) → at < length bytes → leaf_at k bytes at ≡ found x e → is_full n h ≡ true → P at h (ends at h (Some (at_byte 10 at))))
+        (one : (at : ℕ) (h : List L) (x : L) (e : ℕ) (o : Outcome L) → leaf_at k bytes at ≡ found x e → is_full n h ≡ false → P e (inserted (before k) x h) o → P at h (after_leaf x o)) where
       fed_all : (steps at : ℕ) (h : List L) → length bytes ≤ steps + at → P at h (fed k n bytes steps at h)
       fed_all zero at h l = over at h (omega arith)
       fed_all (suc steps) at h l =
+          let Q : Answer L → Type 0 = λ a. P at h (go steps h at a) in
           cond_both (ltb at (length bytes)) (go steps h at (accepted_at k n bytes at h)) (ends at h None) (P at h)
           (λ t.
-          let m = ltb-true at (length bytes) t in
-          judged_both (P at h) (accepted_at k n bytes at h) (λ r. ends at h (Some r)) (λ x e. after_leaf x (fed k n bytes steps e (inserted (before k) x h)))
-          (λ r q. stop at h r m q)
-          (λ x e q. let b = accepted_ends at h x e q in one at h x e _ m q (fed_all steps e (inserted (before k) x h) (omega arith))))
+          judged_both Q (leaf_at k bytes at) refused (λ x e. cond (is_full n h) (refused (at_byte 10 at)) (found x e))
+          (λ r q. unread at h r (ltb-true at (length bytes) t) q)
+          (λ x e q.
+          let b = read_well at x e q in
+          cond_both (is_full n h) (refused (at_byte 10 at)) (found x e) Q
+          (λ f. full at h x e (ltb-true at (length bytes) t) q f)
+          (λ f. one at h x e _ q f (fed_all steps e (inserted (before k) x h) (omega arith)))))
           (λ t. over at h (ltb-false at (length bytes) t))
 
       pub left_all : (at : ℕ) (h : List L) → P at h (left at h)

@@ -1,6 +1,8 @@
 -- The lines of lawful leaves are lawful, in whatever order these stand.
-use Rattle.std.proofs.Common.{◌≡◌, ℕ, zero, suc, ◌<◌, List, [], ◌∷◌, length, slice_index_or, sym, subst, arith}
+use Rattle.std.proofs.Common.{◌≡◌, ℕ, zero, suc, ◌<◌, List, [], ◌∷◌, length, take, slice_get, slice_index_or, Some, sym, ap, ◌∙◌, subst, arith}
 use Rattle.std.proofs.lemmas.Bool.{cond_both}
+use Rattle.std.proofs.lemmas.List.{get_or-take}
+use Rattle.std.proofs.lemmas.Option.{slice_get-get_or}
 use Rattle.leaf.specs.Kind.{Kind, Laws, Lawful, covers, touches}
 use Rattle.list.specs.Lists.{All, joined, joined_on}
 use Rattle.list.specs.Runs.{reading}
@@ -12,6 +14,13 @@ all_at : {X : Type 0} (P : X → Type 0) (xs : List X) (n : ℕ) (d : X) → All
 all_at P [] n d h l = absurd (omega (arith, l))
 all_at P (x ∷ xs) zero d h l = h.0
 all_at P (x ∷ xs) (suc n) d h l = all_at P xs n d h.1 (omega (arith, l))
+
+-- the lines stand in front in the table
+pub line_stands : {X : Type 0} (table lines : List X) (m n : ℕ) (x : X) → take m table ≡ lines → m ≡ length lines → n < m → (n < length lines) × (slice_index_or lines n x ≡ slice_index_or table n x) × (slice_get lines n ≡ Some (slice_index_or table n x))
+line_stands table lines m n x e l i =
+    let inside : n < length lines = omega (arith, i, l) in
+    let here : slice_index_or lines n x ≡ slice_index_or table n x = ap (λ xs. slice_index_or xs n x) (sym e) ∙ get_or-take m table n x i in
+    (inside, here, slice_get-get_or lines n x inside ∙ ap (λ z. Some z) here)
 
 module _ {V L : Type 0} (k : Kind V L) (laws : Laws k) where
   joined_on_lawful : (a : L) (xs : List L) → Lawful k a → All (Lawful k) xs → All (Lawful k) (joined_on (touches k) k.join a xs)

@@ -6,7 +6,7 @@ use Rattle.list.specs.Lists.{All, Any, inserted, inserted_all}
 use Rattle.list.specs.Sheets.{Outcome, is_full, sheet_outcome}
 use Rattle.list.specs.Runs.{Call, after, taken, reading, Allowed, Unread}
 use Rattle.list.specs.Runs.Call.{insert, sheet, admits?, empty?, count, line}
-use Rattle.list.proofs.Fed.{accepted_ends, left_all, sheet_all}
+use Rattle.list.proofs.Fed.{read_well, left_all, sheet_all}
 use Rattle.list.proofs.Rows.{any_inserted, inserted_any}
 use Rattle.list.proofs.Joined.{Row}
 use Rattle.list.proofs.Reading.{put_row}
@@ -58,10 +58,8 @@ module _ {V L : Type 0} (k : Kind V L) (w : Laws k) where
   pub sheet_pours : (n : ℕ) (bytes : List ℕ) (h : List L) → Pours h (sheet_outcome k n bytes h)
   sheet_pours n bytes h =
       sheet_all k n bytes h (Pours h) (λ _. nothing h _ refl refl) (λ _. nothing h _ refl refl) (λ _ _ _. nothing h _ refl refl)
-      (λ _. left_all k n bytes w (λ at h o. Pours h o)
-      (λ at h l. nothing h _ refl refl)
-      (λ at h r l q. nothing h _ refl refl)
-      (λ at h x e o l q p. record { held = p.held; lawful = ((accepted_ends k n bytes w at h x e q).0, p.lawful) }) 1 h)
+      (λ _. left_all k n bytes w (λ at h o. Pours h o) (λ at h l. nothing h _ refl refl) (λ at h r l q. nothing h _ refl refl) (λ at h x e l q f. nothing h _ refl refl)
+      (λ at h x e o q f p. record { held = p.held; lawful = ((read_well k n bytes w at x e q).0, p.lawful) }) 1 h)
 
   -- every call but a reading
   pub after_poured : (n : ℕ) (h : List L) (c : Call V L) → Unread k c → after k n h c ≡ poured k h (taken k n h c)

@@ -50,11 +50,15 @@ module _ {X : Type 0} where
   joined touch join [] = []
   joined touch join (x ∷ xs) = joined_on touch join x xs
 
-  -- each that no other covers; cov y x: y covers x; what stands before is given in reverse
+  -- whether one of those before x or after it covers x; cov y x: y covers x
+  abbrev pub is_covered_by : (X → X → Bool) → X → List X → List X → Bool
+  is_covered_by cov x before after = any (λ y. cov y x) before || any (λ y. cov y x) after
+
+  -- each that no other covers; what stands before is given in reverse
   abbrev pub kept_on : (X → X → Bool) → List X → List X → List X
   kept_on cov before [] = []
   kept_on cov before (x ∷ after) =
-      cond (any (λ y. cov y x) before || any (λ y. cov y x) after) (kept_on cov (x ∷ before) after) (x ∷ kept_on cov (x ∷ before) after)
+      cond (is_covered_by cov x before after) (kept_on cov (x ∷ before) after) (x ∷ kept_on cov (x ∷ before) after)
 
   abbrev pub kept : (X → X → Bool) → List X → List X
   kept cov xs = kept_on cov [] xs

@@ -1,6 +1,6 @@
 -- What a sheet does to the leaves held: its leaves are inserted in turn, each once it is read, up to the sheet's end or a refusal.
-use Rattle.std.specs.Prelude.{ℕ, zero, suc, Bool, cond, List, [], ◌∷◌, length, Some, None, Option, nat_le, nat_lt}
-use Rattle.faults.specs.Faults.{Refused, Answer, found, refused, at_byte}
+use Rattle.std.specs.Prelude.{◌≡◌, ℕ, zero, suc, Bool, cond, List, [], ◌∷◌, length, Some, None, Option, nat_le, nat_lt}
+use Rattle.faults.specs.Faults.{Refused, Answer, found, refused, at_byte, refused_at}
 use Rattle.leaf.specs.Kind.{Kind, before, leaf_at}
 use Rattle.list.specs.Lists.{inserted}
 
@@ -28,6 +28,10 @@ module _ {L : Type 0} where
   abbrev pub is_full : ℕ → List L → Bool
   is_full n h = nat_le n (length h)
 
+  -- the refusal of a leaf for which there is no place: at a byte, or naming none
+  abbrev pub full_at : Option ℕ → ℕ → List L → Option Refused
+  full_at byte n h = cond (is_full n h) (Some (refused_at 10 byte)) None
+
 module _ {V L : Type 0} (k : Kind V L) (n : ℕ) (bytes : List ℕ) where
   -- the leaf at `at`, once it is read and there is a place for it, and its end
   abbrev pub accepted_at : ℕ → List L → Answer L
@@ -48,6 +52,14 @@ module _ {V L : Type 0} (k : Kind V L) (n : ℕ) (bytes : List ℕ) where
   -- at most 32,768 bytes, the first names the kind, then come the leaves
   abbrev pub sheet_outcome : List L → Outcome L
   sheet_outcome h = cond (nat_lt 32768 (length bytes)) (ends 0 h (Some (at_byte 1 0))) (first_byte bytes h)
+
+module _ {V L : Type 0} (k : Kind V L) (bytes : List ℕ) where
+  -- in every table the leaves of the sheet are taken from this byte on; or none of it is taken
+  abbrev pub StartsAt : ℕ → Type 0
+  StartsAt at = (n : ℕ) (h : List L) → sheet_outcome k n bytes h ≡ fed k n bytes (length bytes) at h
+
+  abbrev pub TakesNone : Refused → Type 0
+  TakesNone f = (n : ℕ) (h : List L) → sheet_outcome k n bytes h ≡ ends 0 h (Some f)
 
 -- what a leaf accepted does to those held; a refusal leaves them as they were
 abbrev pub put_in : {L : Type 0} → (L → L → Bool) → List L → Answer L → Answer (List L)

@@ -1,6 +1,6 @@
-ghost use Rattle.std.specs.Prelude.{◌≡◌, ◌+◌, ◌<◌, ◌≤◌, ◌||◌, length, take, drop};
+ghost use Rattle.std.specs.Prelude.{◌≡◌, ◌+◌, ◌<◌, ◌≤◌, length, take, drop};
 ghost use Rattle.leaf.specs.Kind.{covers as covering};
-ghost use Rattle.list.specs.Lists.{any, kept};
+ghost use Rattle.list.specs.Lists.{any, is_covered_by, kept};
 
 use leaf::{Leaf, covers};
 
@@ -14,7 +14,7 @@ fn any_covers<V: Copy, L: Leaf<V>>(lines: &[L], line: &L) -> bool
 // Whether another of the lines than the one at `i`, which is `line`, covers it.
 fn is_covered<V: Copy, L: Leaf<V>>(lines: &[L], i: usize, line: &L) -> bool
     requires { i < length lines.now }
-    ensures { result ≡ (any (λ y. covering L.kind y line.now) (take i lines.now) || any (λ y. covering L.kind y line.now) (drop (i + 1) lines.now)) }
+    ensures { result ≡ is_covered_by (covering L.kind) line.now (take i lines.now) (drop (i + 1) lines.now) }
 {
     any_covers(&lines[..i], line) || any_covers(&lines[i + 1..], line)
 }

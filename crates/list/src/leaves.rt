@@ -1,10 +1,12 @@
-ghost use Rattle.std.specs.Prelude.{◌≡◌, ◌≤◌, true, false, List, [], length, take, if◌then◌else◌, ◌==◌, nat_lt, slice_index_or};
-ghost use Rattle.faults.specs.Faults.{refused_at, refused_with, unplaced};
-ghost use Rattle.leaf.specs.Kind.{Lawful, before, admits as admitted};
-ghost use Rattle.list.specs.Lists.{All, Placed, any};
-ghost use Rattle.list.specs.Runs.{Call, Promised, Promises, after, reading};
+ghost use Rattle.std.specs.Option.{is_some};
+ghost use Rattle.std.specs.Prelude.{◌≡◌, ◌≤◌, true, List, [], length, take, unwrap_or};
+ghost use Rattle.faults.specs.Faults.{refused_with};
+ghost use Rattle.leaf.specs.Kind.{Lawful};
+ghost use Rattle.list.specs.Lists.{All};
 ghost use Rattle.list.specs.Runs.Call.{admits? as call_admits, count as call_count, empty? as call_empty, insert as call_insert, line as call_line};
-ghost use Rattle.list.specs.Sheets.{is_full};
+ghost use Rattle.list.specs.Runs.{Call, Promises, reading};
+ghost use Rattle.list.specs.Seen.{answer_of, held_after, read_after};
+ghost use Rattle.list.specs.Sheets.{full_at, is_full};
 
 use crate::dropping::drop_covered;
 use crate::merging::merge_held;
@@ -13,11 +15,13 @@ use crate::questions::any_admits;
 use leaf::{Fault, Leaf, Refusal};
 use std::marker::PhantomData;
 
-// A list in the caller's table: it holds the first `held` places. `canonical` says that nothing came since the last reading.
+/// A list of leaves in a table that its caller lends. They stand in front in the table; what stands past them is free, and
+/// no answer depends on it.
 #[derive(Drop)]
 pub struct Leaves<'a, V, L> {
     table: &'a mut [L],
     held: usize,
+    // Nothing came since the last reading.
     canonical: bool,
     values: PhantomData<V>,
     ghost within: { held ≤ length table.now },
@@ -33,15 +37,16 @@ fn read_held<V: Copy, L: Leaf<V>>(held: &mut [L]) -> usize
 }
 
 impl<'a, V: Copy, L: Leaf<V>> Leaves<'a, V, L> {
-    ghost use Rattle.list.specs.Held.{Leads, LeadsOn, SameTable, Settled, Sound, Unsettles, held_of, lines_of, places_of};
+    ghost use Rattle.list.specs.Held.{FreePlacesUnseen, KeepsPromises, Leads, LeadsOn, PutsIn, SameTable, Settled, Sound, held_of, lines_of, places_of, seen_of};
 
-    // A list that holds no leaf, whatever the table has in it.
+    /// A list that holds no leaf: whatever the table has in it, all its places are free.
     pub fn open(table: &'a mut [L]) -> Leaves<'a, V, L>
         ensures table { (result.table.ghost_name ≡ table.entry.ghost_name) × (result.table.now ≡ table.old) }
         ensures held { held_of result ≡ [] }
         ensures sound { Sound L.kind result }
         ensures run { Leads L.kind [] result }
         ensures promises { Promises L.kind }
+        ensures unseen { FreePlacesUnseen L.kind }
     {
         Leaves {
             table,
@@ -51,13 +56,13 @@ impl<'a, V: Copy, L: Leaf<V>> Leaves<'a, V, L> {
         }
     }
 
-    // Puts the leaf into its place; refuses at the byte given, and changes nothing, exactly when the leaves held fill the table.
+    // Puts the leaf into its place; where the leaves held fill the table, refuses at the byte given and changes nothing.
     pub(crate) fn accept(&mut self, leaf: L, byte: Option<usize>) -> Result<(), Fault>
         ensures table { SameTable self.old self.new }
-        ensures answer { refused_with result ≡ (if is_full (places_of self.old) (held_of self.old) then Some (refused_at 10 byte) else None) }
+        ensures answer { refused_with result ≡ full_at byte (places_of self.old) (held_of self.old) }
         ensures full { is_full (places_of self.old) (held_of self.old) ≡ true → self.new ≡ self.old }
-        ensures held { held_of self.new ≡ after L.kind (places_of self.old) (held_of self.old) (call_insert leaf) }
-        ensures flag { Unsettles self.old self.new }
+        ensures held { held_of self.new ≡ held_after L.kind (seen_of self.old) (call_insert leaf) }
+        ensures read { self.new.canonical ≡ read_after L.kind (seen_of self.old) (call_insert leaf) }
     {
         if self.held >= self.table.len() {
             return Err(Fault::new(Refusal::TableFull, byte));
@@ -68,13 +73,15 @@ impl<'a, V: Copy, L: Leaf<V>> Leaves<'a, V, L> {
         Ok(())
     }
 
-    // Puts the leaf into its place; refuses with 10, naming no byte, and changes nothing exactly when the leaves held fill the table.
+    /// Puts the leaf into its place; refuses with 10, naming no byte, and changes nothing where the leaves held fill the
+    /// table. What stands in the table past the leaves held is free, and no answer depends on it.
     pub fn insert(&mut self, leaf: L) -> Result<(), Fault>
         ensures table { SameTable self.old self.new }
-        ensures answer { refused_with result ≡ (if is_full (places_of self.old) (held_of self.old) then Some (unplaced 10) else None) }
+        ensures answer { refused_with result ≡ answer_of L.kind (seen_of self.old) (call_insert leaf) }
         ensures full { is_full (places_of self.old) (held_of self.old) ≡ true → self.new ≡ self.old }
-        ensures held { held_of self.new ≡ after L.kind (places_of self.old) (held_of self.old) (call_insert leaf) }
-        ensures place { Sound L.kind self.old → Lawful L.kind leaf → is_full (places_of self.old) (held_of self.old) ≡ false → Placed (before L.kind) leaf (held_of self.old) (held_of self.new) }
+        ensures held { held_of self.new ≡ held_after L.kind (seen_of self.old) (call_insert leaf) }
+        ensures read { self.new.canonical ≡ read_after L.kind (seen_of self.old) (call_insert leaf) }
+        ensures place { PutsIn L.kind leaf self.old self.new }
         ensures sound { Sound L.kind self.old → Lawful L.kind leaf → Sound L.kind self.new }
         ensures run { Lawful L.kind leaf → LeadsOn L.kind (call_insert leaf) self.old self.new }
     {
@@ -88,19 +95,19 @@ impl<'a, V: Copy, L: Leaf<V>> Leaves<'a, V, L> {
         &self.table[..self.held]
     }
 
-    // Whether a held leaf admits the value; changes nothing.
+    /// Whether a leaf that is held admits the value.
     pub fn admits(&mut self, v: V) -> bool
         ensures same { self.new ≡ self.old }
-        ensures answer { result ≡ any (λ x. admitted L.kind x v) (held_of self.old) }
+        ensures answer { result ≡ answer_of L.kind (seen_of self.old) (call_admits v) }
         ensures run { LeadsOn L.kind (call_admits v) self.old self.new }
     {
         any_admits(self.leaves(), v)
     }
 
-    // Whether no leaf is held; changes nothing.
+    /// Whether no leaf is held.
     pub fn is_empty(&mut self) -> bool
         ensures same { self.new ≡ self.old }
-        ensures answer { result ≡ (length (held_of self.old) == 0) }
+        ensures answer { result ≡ answer_of L.kind (seen_of self.old) call_empty }
         ensures run { LeadsOn L.kind call_empty self.old self.new }
     {
         self.held == 0
@@ -118,36 +125,37 @@ impl<'a, V: Copy, L: Leaf<V>> Leaves<'a, V, L> {
         }
     }
 
-    // How many lines there are; a reading, after which the lines are what is held. What was just read is not read again.
+    /// How many lines there are. A reading, after which the lines are what is held; what was just read is not read again.
+    /// What the reading left in the table past the lines is free, and no answer depends on it.
     pub fn count(&mut self) -> usize
         ensures table { SameTable self.old self.new }
-        ensures answer { result ≡ length (held_of self.new) }
+        ensures answer { result ≡ answer_of L.kind (seen_of self.old) call_count }
         ensures within { result ≤ length self.new.table.now }
         ensures shown { take result self.new.table.now ≡ held_of self.new }
-        ensures held { held_of self.new ≡ lines_of L.kind self.old }
+        ensures held { held_of self.new ≡ held_after L.kind (seen_of self.old) call_count }
         ensures lines { Settled L.kind self.old → held_of self.new ≡ reading L.kind (held_of self.old) }
         ensures read { self.new.canonical ≡ true }
         ensures sound { Sound L.kind self.old → Sound L.kind self.new }
         ensures run { LeadsOn L.kind call_count self.old self.new }
-        ensures promises { (cs : List (Call V L)) → Leads L.kind cs self.old → Promised L.kind (places_of self.old) cs (held_of self.new) }
+        ensures promises { KeepsPromises L.kind self.old self.new }
     {
         self.settle();
         self.held
     }
 
-    // Line n, counted from 0, into the caller's place; false, and the place as it was, where n is at or past the count. A reading.
-    // By the project's rule a place and a flag, not an Option.
+    /// Line n, counted from 0, into the caller's place; false, and the place as it was, where n is at or past the count.
+    /// A reading like `count`: what it left in the table past the lines is free, and no answer depends on it.
     pub fn line(&mut self, n: usize, place: &mut L) -> bool
         ensures table { SameTable self.old self.new }
-        ensures answer { result ≡ nat_lt n (length (held_of self.new)) }
-        ensures filled { place.new ≡ slice_index_or (held_of self.new) n place.old }
+        ensures answer { result ≡ is_some (answer_of L.kind (seen_of self.old) (call_line n)) }
+        ensures filled { place.new ≡ unwrap_or (answer_of L.kind (seen_of self.old) (call_line n)) place.old }
         ensures lawful { All (Lawful L.kind) (held_of self.old) → result ≡ true → Lawful L.kind place.new }
-        ensures held { held_of self.new ≡ lines_of L.kind self.old }
+        ensures held { held_of self.new ≡ held_after L.kind (seen_of self.old) (call_line n) }
         ensures lines { Settled L.kind self.old → held_of self.new ≡ reading L.kind (held_of self.old) }
         ensures read { self.new.canonical ≡ true }
         ensures sound { Sound L.kind self.old → Sound L.kind self.new }
         ensures run { LeadsOn L.kind (call_line n) self.old self.new }
-        ensures promises { (cs : List (Call V L)) → Leads L.kind cs self.old → Promised L.kind (places_of self.old) cs (held_of self.new) }
+        ensures promises { KeepsPromises L.kind self.old self.new }
     {
         if n >= self.count() {
             return false;

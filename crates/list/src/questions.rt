@@ -4,7 +4,7 @@ ghost use Rattle.list.specs.Lists.{any};
 
 use leaf::{Leaf, admits};
 
-// Whether one of the leaves admits the value. A `for` over them: the project's rule for this question.
+// Whether one of the leaves admits the value.
 pub(crate) fn any_admits<V: Copy, L: Leaf<V>>(held: &[L], v: V) -> bool
     ensures { result ≡ any (λ x. admitted L.kind x v) held.now }
 {

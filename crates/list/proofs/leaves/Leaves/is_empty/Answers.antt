@@ -4,4 +4,4 @@ use Rattle.list.proofs.Steps.{leads_ask}
 use Rattle.list.proofs.leaves.Leaves.is_empty.Goals as goal
 
 pub returns-clause-run : goal.returns-clause-run
-returns-clause-run g c = leads_ask g.L.Leaf.kind g.met.L.Leaf.lawfully c.args.self.now empty? (λ n h. refl) tt
+returns-clause-run g c = leads_ask g.L.Leaf.kind g.met.L.Leaf.lawfully c.args.self.now empty? tt (λ n h. refl) (λ s. refl) tt

@@ -1,8 +1,7 @@
-use Rattle.std.proofs.Common.{◌≡◌, ◌<◌, length, slice_index_or, refl, sym, ap, ◌∙◌, subst, arith}
-use Rattle.std.proofs.lemmas.List.{get_or-take}
+use Rattle.std.proofs.Common.{unwrap_or, refl, sym, ap, ◌∙◌, subst}
 use Rattle.leaf.specs.Kind.{Lawful}
-use Rattle.list.specs.Held.{held_of}
-use Rattle.list.proofs.LawfulLines.{line_lawful}
+use Rattle.list.specs.Held.{lines_of}
+use Rattle.list.proofs.LawfulLines.{line_lawful, line_stands}
 use Rattle.list.specs.Runs.Call.{line}
 use Rattle.list.proofs.Steps.{leads_read}
 use Rattle.list.proofs.leaves.Leaves.line.Goals as goal
@@ -13,12 +12,15 @@ returns-then-n-count-clause-run g c = leads_read g.L.Leaf.kind g.met.L.Leaf.lawf
 pub returns-clause-run : goal.returns-clause-run
 returns-clause-run g c = leads_read g.L.Leaf.kind g.met.L.Leaf.lawfully c.args.self.now c.count.new.self c.count.ensures.table.places c.count.ensures.held (line c.args.n) (λ n h. refl) tt
 
+pub returns-clause-filled : goal.returns-clause-filled
+returns-clause-filled g c =
+    let n = c.count.ensures in
+    let s = line_stands c.count.new.self.table.now (lines_of g.L.Leaf.kind c.args.self.now) c.count.result c.args.n c.index-self-n.result (n.shown ∙ n.held) n.answer c.if-n-count.false in
+    sym (ap (λ o. unwrap_or o c.args.place.now) s.2)
+
 pub returns-clause-lawful : goal.returns-clause-lawful
 returns-clause-lawful g c =
-    let held = held_of c.count.new.self in
-    let n = c.args.n in
-    let x = c.index-self-n.result in
-    let below : n < c.count.result = omega (arith, c.if-n-count.false) in
-    let here : slice_index_or held n x ≡ slice_index_or c.count.new.self.table.now n x = ap (λ xs. slice_index_or xs n x) (sym c.count.ensures.shown) ∙ get_or-take c.count.result c.count.new.self.table.now n x below in
-    let inside : n < length held = omega (arith, below, c.count.ensures.answer) in
-    λ all _. subst (Lawful g.L.Leaf.kind) here (line_lawful g.L.Leaf.kind g.met.L.Leaf.lawfully c.args.self.now held n x c.count.ensures.held all inside)
+    let n = c.count.ensures in
+    let lines = lines_of g.L.Leaf.kind c.args.self.now in
+    let s = line_stands c.count.new.self.table.now lines c.count.result c.args.n c.index-self-n.result (n.shown ∙ n.held) n.answer c.if-n-count.false in
+    λ all _. subst (Lawful g.L.Leaf.kind) s.1 (line_lawful g.L.Leaf.kind g.met.L.Leaf.lawfully c.args.self.now lines c.args.n c.index-self-n.result refl all s.0)
