@@ -9,7 +9,7 @@ use Rattle.leaf.specs.Fields.{field_at}
 use Rattle.leaf.specs.Numbers.{bit_of, has_bit, number_at}
 use Rattle.leaf.specs.Windows.{bound_at, value_at}
 use Rattle.leaf.specs.declared.bounds.Bounds.{Bounds}
-use Rattle.leaf.proofs.Rows.{Runs, Holds, holds_next, Walked, Halted, walks, arrives}
+use Rattle.leaf.specs.Laws.Rows.{Runs, Holds, holds_next, Walked, Halted, walks, arrives}
 use Rattle.amounts.specs.declared.amount.WrittenAmount.{WrittenAmount}
 use Rattle.amounts.specs.Making.{amount_in}
 use Rattle.amounts.specs.Values.{amount_of}

@@ -11,8 +11,8 @@ use Rattle.leaf.specs.Fields.{Stands, Unfit, Reached, here}
 use Rattle.leaf.specs.Layouts.{LeafGrammar, is_of_field}
 use Rattle.leaf.specs.Numbers.{has_bit}
 use Rattle.leaf.specs.Kind.{is_bound as is_bound_of}
-use Rattle.leaf.proofs.Rows.{due_at, unfit_at}
-use Rattle.leaf.proofs.Judging.{AllBelow, BelowFlags, both_below, Known, Numeric, leaf_grammar, only_first}
+use Rattle.leaf.specs.Laws.Rows.{due_at, unfit_at}
+use Rattle.leaf.specs.Laws.Judging.{AllBelow, BelowFlags, both_below, Known, Numeric, leaf_grammar, only_first}
 use Rattle.amounts.specs.Amounts.{amounts, is_bound}
 use Rattle.amounts.specs.Values.{amount_of}
 use Rattle.amounts.specs.Reading.{Written, are_flags, leaf_at, written_at}

@@ -8,7 +8,7 @@ use Rattle.faults.specs.Faults.{Refused, then, unplaced}
 use Rattle.leaf.specs.Tests.{Decided, decided, window_tests}
 use Rattle.leaf.specs.Windows.{written}
 use Rattle.leaf.specs.declared.bounds.Bounds.{Bounds}
-use Rattle.leaf.proofs.Deciding.{decides, then_decided, window_decided}
+use Rattle.leaf.specs.Laws.Deciding.{decides, then_decided, window_decided}
 use Rattle.amounts.specs.declared.amount.WrittenAmount.{WrittenAmount}
 use Rattle.amounts.specs.declared.amount_leaf.AmountLeaf.{AmountLeaf}
 use Rattle.amounts.specs.Leaves.{leaf_of}

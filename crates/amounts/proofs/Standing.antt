@@ -9,8 +9,8 @@ use Rattle.faults.specs.Faults.{Answer, found, next}
 use Rattle.leaf.specs.Numbers.{bit_of, has_bit}
 use Rattle.leaf.specs.Windows.{bound_at}
 use Rattle.leaf.specs.declared.bounds.Bounds.{Bounds}
-use Rattle.leaf.proofs.Rows.{field_fits, number_read}
-use Rattle.leaf.proofs.Judging.{Row, LeafRow, row_parts}
+use Rattle.leaf.specs.Laws.Rows.{field_fits, number_read}
+use Rattle.leaf.specs.Laws.Judging.{Row, LeafRow, row_parts}
 use Rattle.amounts.specs.Amounts.{is_bound}
 use Rattle.amounts.specs.Making.{amount_in}
 use Rattle.amounts.specs.Values.{amount_of, is_amount}

@@ -4,6 +4,7 @@ use Rattle.std.specs.Int.Signed.{le_z}
 use Rattle.divisors.specs.Dividing.{bars_no_more, divide_all}
 use Rattle.divisors.specs.Rows.{is_folded, is_thinned}
 use Rattle.leaf.specs.Kind.{Kind}
+use Rattle.leaf.specs.Windows.{hull_of}
 use Rattle.amounts.specs.declared.amount_leaf.AmountLeaf.{AmountLeaf}
 use Rattle.amounts.specs.Values.{incremented, is_amount, next_of, is_on_grid}
 use Rattle.amounts.specs.Rules.{admitted, both_at_most, step}
@@ -33,7 +34,7 @@ amounts = record {
   rule_admits = λ a v. is_amount v && admitted (required a) (barred a) (unsigned_abs v);
   next_on_grid = λ a v. next_of (step (required a)) v;
   rule_covers = λ a b. divide_all (required a) (required b) && bars_no_more (barred a) (barred b);
-  widened = λ a b x y. record { bounds = record { minimum = x; maximum = y }; required = a.required; barred = a.barred };
+  join = λ a b. record { bounds = hull_of le_z a.bounds b.bounds; required = a.required; barred = a.barred };
   kind_byte = λ b. (b == 65);
   reading = leaf_at;
 }

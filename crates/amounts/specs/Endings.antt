@@ -1,5 +1,5 @@
 -- What is read of an amount leaf is lawful, ends past its start and within the sheet, and means what is written.
-use Rattle.std.specs.Prelude.{◌≡◌, ℕ, zero, suc, ◌^◌, ◌<◌, ◌≤◌, Bool, true, cond, ◌&&◌, List, length, ℤ, Some, None, nat_le, nat_lt, refl}
+use Rattle.std.specs.Prelude.{◌≡◌, ℕ, zero, suc, ◌^◌, ◌<◌, ◌≤◌, Bool, true, cond, ◌&&◌, List, length, ℤ, Some, None, min, nat_le, nat_lt, refl}
 use Rattle.std.proofs.Common.{ap, subst, ◌∙◌, arith}
 use Rattle.std.proofs.lemmas.Bool.{and_from, and_parts, cond_both, cond-true, le-leb, ltb-false}
 use Rattle.divisors.specs.declared.fraction.Fraction.{Fraction}
@@ -9,10 +9,11 @@ use Rattle.faults.specs.Faults.{Answer, found, refused, at_byte}
 use Rattle.leaf.specs.Numbers.{number_at}
 use Rattle.leaf.specs.Reading.{byte_at}
 use Rattle.leaf.specs.Kind.{is_bound}
-use Rattle.leaf.proofs.Chains.{next_both, Ends, byte_ends, ends_found, number_ends}
+use Rattle.leaf.specs.Laws.Starts.{byte_past, from_end}
+use Rattle.leaf.specs.Laws.Chains.{next_both, Ends, byte_ends, ends_found, number_ends}
 use Rattle.amounts.specs.Amounts.{amounts}
-use Rattle.amounts.specs.Reading.{Written, amount_at, are_flags, bounds_at, flags_at, fraction_at, fractions_at, head_at, list_at, lists_at, part_at, written_at}
-use Rattle.leaf.proofs.Ends.{Window as Within, bounds_end as bounds_within}
+use Rattle.amounts.specs.Reading.{Written, amount_at, are_flags, bounds_at, flags_at, fraction_at, fractions_at, head_at, leaf_at, list_at, lists_at, part_at, written_at}
+use Rattle.leaf.specs.Laws.Ends.{Window as Within, bounds_end as bounds_within}
 use Rattle.leaf.specs.declared.bounds.Bounds.{Bounds}
 use Rattle.amounts.specs.declared.amount.WrittenAmount.{WrittenAmount}
 use Rattle.amounts.specs.Making.{amount_in}
@@ -144,3 +145,10 @@ written_end s i =
 
 pub written_sound : (s : List ℕ) (i : ℕ) (w : Written) (e : ℕ) → written_at s i ≡ found w e → Sound s i w e
 written_sound s i w e q = subst (Whole s i) q (written_end s i)
+
+-- a leaf that would start past the end
+leaf_past : (s : List ℕ) (i : ℕ) → length s ≤ i → leaf_at s i ≡ refused (at_byte 2 (length s))
+leaf_past s i h = rw (byte_past s i h) refl
+
+pub leaf_from_end : (s : List ℕ) (i : ℕ) → leaf_at s (min i (length s)) ≡ leaf_at s i
+leaf_from_end = from_end leaf_at leaf_past

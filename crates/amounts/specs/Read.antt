@@ -16,7 +16,7 @@ use Rattle.divisors.proofs.Kept.{barred_thinned, positive, required_settled}
 use Rattle.divisors.proofs.Makes.{fold_of_lem, thin_of_lem}
 use Rattle.faults.specs.Faults.{found, refused, at_byte}
 use Rattle.leaf.specs.Kind.{Lawful, WellRead, is_bound, is_value_window}
-use Rattle.leaf.proofs.Chains.{next_both}
+use Rattle.leaf.specs.Laws.Chains.{next_both}
 use Rattle.amounts.specs.Amounts.{amounts}
 use Rattle.amounts.specs.Leaves.{is_window, leaf_of, row_of}
 use Rattle.amounts.specs.Meaning.{Means}

@@ -11,7 +11,8 @@ use Rattle.divisors.specs.Rows.{is_folded, is_thinned, padded}
 use Rattle.divisors.specs.Settled.{are_more, are_reduced, joinless, settled, stripless}
 use Rattle.divisors.proofs.Lawful.{barred_laws, order_laws, required_laws}
 use Rattle.divisors.proofs.Padded.{row_is}
-use Rattle.leaf.specs.Kind.{Laws, is_value_window, same_rule}
+use Rattle.leaf.specs.Kind.{Joins, Lawful, Laws, is_value_window, same_rule}
+use Rattle.leaf.specs.Laws.Hulls.{hull_window, joins_hull}
 use Rattle.amounts.specs.declared.amount_leaf.AmountLeaf.{AmountLeaf}
 use Rattle.amounts.specs.Amounts.{amounts, is_bound, is_lawful}
 use Rattle.amounts.specs.Leaves.{barred, is_window, required}
@@ -150,6 +151,13 @@ admits_grid a v h =
     and_from (is_amount v) (unsigned_abs v % step (required a) == 0) y.0
     (eq-eqb (unsigned_abs v % step (required a)) 0 (admitted_step (required a) (barred a) (unsigned_abs v) y.1))
 
+joined : (a b : AmountLeaf) → Lawful amounts a → Lawful amounts b → Joins amounts a b (amounts.join a b)
+joined a b p q =
+    let x = parts a p in
+    let j = amounts.join a b in
+    let w = hull_window amounts le_total le_trans a.bounds.minimum a.bounds.maximum b.bounds.minimum b.bounds.maximum x.window (parts b q).window in
+    joins_hull amounts le_total le_trans a b j (lawful_leaf j.bounds.minimum j.bounds.maximum a.required a.barred w x.folded x.thin) (equal_tie a j refl refl) refl refl
+
 pub amounts_laws : Laws amounts
 amounts_laws = record {
   le_total = le_total;
@@ -177,10 +185,7 @@ amounts_laws = record {
   next_grid = λ a v w p q e. next_grid (step (required a)) v w (step_pos (required a)) q e;
   next_least = λ a v w u p q e g h. next_least (step (required a)) v w u (step_pos (required a)) q e g h;
   next_none = λ a v u p q e g. next_none (step (required a)) v u (step_pos (required a)) q e g;
-  widened_lawful = λ a b x y p q s w. lawful_leaf x y a.required a.barred w (parts a p).folded (parts a p).thin;
-  widened_rule = λ a b x y p q s w. equal_tie a (amounts.widened a b x y) refl refl;
-  widened_minimum = λ a b x y. refl;
-  widened_maximum = λ a b x y. refl;
+  joins = λ a b p q. joined a b p q;
   covers_refl = λ a b p q s. covers_refl a b (parts a p) (parts b q) s;
   covers_trans = λ a b c p q r h i. covers_trans a b c (parts a p) (parts c r) h i;
   covers_anti = λ a b p q h i. covers_anti a b (parts a p) (parts b q) h i;

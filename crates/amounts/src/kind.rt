@@ -60,11 +60,10 @@ impl Leaf<i64> for AmountLeaf {
         self.required.divide_all(&other.required) && self.barred.bars_no_more_than(&other.barred)
     }
 
-    fn widened(&self, other: &AmountLeaf, bounds: Bounds<i64>) -> AmountLeaf
-        ensures { result ≡ amounts.widened self.now other.now bounds.minimum bounds.maximum }
-    {
+    #[tactic(auto, using(leaf::specs::Laws::Orders::int_hull))]
+    fn join(&self, other: &AmountLeaf) -> AmountLeaf {
         AmountLeaf {
-            bounds,
+            bounds: self.bounds.hull(other.bounds),
             required: self.required,
             barred: self.barred,
         }
@@ -75,14 +74,14 @@ impl Leaf<i64> for AmountLeaf {
     }
 
     // In each kind, since each says besides what its leaf means.
-    #[tactic(auto, using(crate::proofs::Grammar::read_means, crate::proofs::Grammar::amounts_stand))]
+    #[tactic(auto, using(crate::specs::Endings::leaf_from_end, crate::proofs::Grammar::read_means, crate::proofs::Grammar::amounts_stand))]
     fn read(sheet: &[u8], start: usize, place: &mut AmountLeaf) -> Result<usize, Fault>
         ensures reads { Fills (amounts.reading sheet.now start) place.old place.new result }
         ensures grammar { AmountsStand }
         ensures means { ReadMeans }
     {
-        let mut reader = Reader { sheet, at: start };
+        let mut reader = Reader::new(sheet, start);
         *place = read_leaf(&mut reader)?;
-        Ok(reader.at)
+        Ok(reader.at())
     }
 }

@@ -28,7 +28,7 @@ fn are_flags(flags: u8) -> bool
 fn read_flags(reader: &mut Reader<'_>) -> Result<u8, Fault>
     ensures { Reads flags_at reader.old reader.new result }
 {
-    let start = reader.at;
+    let start = reader.at();
     let flags = reader.byte()?;
     if !are_flags(flags) {
         return Err(Fault::at(Refusal::UnknownByte, start));
@@ -48,7 +48,7 @@ fn read_head(reader: &mut Reader<'_>) -> Result<Bounds<i64>, Fault>
 fn read_part(reader: &mut Reader<'_>) -> Result<u64, Fault>
     ensures { Reads part_at reader.old reader.new result }
 {
-    let start = reader.at;
+    let start = reader.at();
     let n = reader.number()?;
     if n == 0 || n > LARGEST {
         return Err(Fault::at(Refusal::BadPart, start));
@@ -69,7 +69,7 @@ fn read_fraction(reader: &mut Reader<'_>) -> Result<Fraction, Fault>
 fn read_list(reader: &mut Reader<'_>) -> Result<Row, Fault>
     ensures { ReadsAs fractions list_at reader.old reader.new result }
 {
-    let start = reader.at;
+    let start = reader.at();
     let count = reader.number()?;
     let many = Fault::at(Refusal::ManyDivisors, start);
     if count > PLACES {
@@ -97,7 +97,7 @@ fn read_lists(reader: &mut Reader<'_>) -> Result<(Row, Row), Fault>
 pub(crate) fn read_leaf(reader: &mut Reader<'_>) -> Result<AmountLeaf, Fault>
     ensures { Reads leaf_at reader.old reader.new result }
 {
-    let start = reader.at;
+    let start = reader.at();
     let bounds = read_head(reader)?;
     let (required, barred) = read_lists(reader)?;
     if !bounds.is_window() {

@@ -8,7 +8,7 @@ use Rattle.leaf.specs.Fields.{field_at}
 use Rattle.leaf.specs.Numbers.{bit_of, has_bit, number_at}
 use Rattle.leaf.specs.Windows.{bound_at, value_at, written}
 use Rattle.leaf.specs.declared.bounds.Bounds.{Bounds}
-use Rattle.leaf.proofs.Rows.{Runs, Holds, holds_next, Walked, Halted, walks, arrives}
+use Rattle.leaf.specs.Laws.Rows.{Runs, Holds, holds_next, Walked, Halted, walks, arrives}
 use Rattle.days.specs.declared.calendar.Date.{Date}
 use Rattle.days.specs.declared.day_leaf.DayLeaf.{DayLeaf}
 use Rattle.days.specs.Calendar.{day_of, day_number, is_date}

@@ -7,8 +7,8 @@ use Rattle.leaf.specs.Encoding.{Bytes}
 use Rattle.leaf.specs.Fields.{Stands, Unfit, Reached, here, field_at}
 use Rattle.leaf.specs.Layouts.{LeafGrammar, is_of_field}
 use Rattle.leaf.specs.Numbers.{bit_of, has_bit}
-use Rattle.leaf.proofs.Rows.{Holds, Halted, Runs, due_at, field_fits, number_read, unfit_at}
-use Rattle.leaf.proofs.Judging.{AllBelow, BelowFlags, both_below, Known, LeafRow, Numeric, Row, leaf_grammar, only_first, row_parts}
+use Rattle.leaf.specs.Laws.Rows.{Holds, Halted, Runs, due_at, field_fits, number_read, unfit_at}
+use Rattle.leaf.specs.Laws.Judging.{AllBelow, BelowFlags, both_below, Known, LeafRow, Numeric, Row, leaf_grammar, only_first, row_parts}
 use Rattle.days.specs.declared.calendar.Date.{Date}
 use Rattle.days.specs.Calendar.{day_number, is_date}
 use Rattle.days.specs.Dates.{day_small}

@@ -5,7 +5,7 @@ use Rattle.faults.specs.Faults.{Refused, then, unplaced}
 use Rattle.leaf.specs.Tests.{Decided, decided, window_tests}
 use Rattle.leaf.specs.Windows.{written}
 use Rattle.leaf.specs.declared.bounds.Bounds.{Bounds}
-use Rattle.leaf.proofs.Deciding.{decides, then_decided, window_decided}
+use Rattle.leaf.specs.Laws.Deciding.{decides, then_decided, window_decided}
 use Rattle.days.specs.declared.calendar.Date.{Date}
 use Rattle.days.specs.declared.day_leaf.DayLeaf.{DayLeaf}
 use Rattle.days.specs.Leaves.{leaf_of}

@@ -25,8 +25,9 @@ lawful_parts low high set h =
     let r = and_parts (is_window low high) (is_set set) q.1 in
     (and_from (is_bound low) (is_bound high && is_window low high) p.0 (and_from (is_bound high) (is_window low high) q.0 r.0), r.1)
 
-pub widened_lawful : (low high : Option ℕ) (set : ℕ) → is_value_window days low high ≡ true → is_set set ≡ true → Lawful days (leaf_of low high set)
-widened_lawful low high set w s =
+-- a leaf in a window of days
+pub window_lawful : (low high : Option ℕ) (set : ℕ) → is_value_window days low high ≡ true → is_set set ≡ true → Lawful days (leaf_of low high set)
+window_lawful low high set w s =
     let p = and_parts (is_bound low) (is_bound high && is_window low high) (same_window low high ∙ w) in
     let q = and_parts (is_bound high) (is_window low high) p.1 in
     leaf_lawful low high set p.0 q.0 q.1 s

@@ -1,16 +1,17 @@
 -- What is read of a day leaf is lawful, and ends past its start and within the sheet.
-use Rattle.std.specs.Prelude.{◌≡◌, ℕ, ◌<◌, ◌≤◌, Bool, true, List, length, Some, nat_lt, refl}
+use Rattle.std.specs.Prelude.{◌≡◌, ℕ, ◌<◌, ◌≤◌, Bool, true, List, length, Some, min, nat_lt, refl}
 use Rattle.std.proofs.Common.{subst, arith}
 use Rattle.std.proofs.lemmas.Bool.{cond_both}
 use Rattle.faults.specs.Faults.{Answer, found, refused, at_byte}
 use Rattle.leaf.specs.declared.bounds.Bounds.{Bounds}
 use Rattle.leaf.specs.Numbers.{number_at}
-use Rattle.leaf.proofs.Ends.{Window as Within, bounds_end as bounds_within}
+use Rattle.leaf.specs.Laws.Ends.{Window as Within, bounds_end as bounds_within}
 use Rattle.days.specs.declared.calendar.Date.{Date}
 use Rattle.days.specs.Making.{numbered}
 use Rattle.leaf.specs.Reading.{byte_at}
 use Rattle.leaf.specs.Kind.{WellRead}
-use Rattle.leaf.proofs.Chains.{next_both, Ends, byte_ends, ends_found, number_ends}
+use Rattle.leaf.specs.Laws.Starts.{byte_past, from_end}
+use Rattle.leaf.specs.Laws.Chains.{next_both, Ends, byte_ends, ends_found, number_ends}
 use Rattle.days.specs.Days.{days}
 use Rattle.days.specs.Leaves.{is_bound, is_window, leaf_of}
 use Rattle.days.specs.Reading.{bounds_at, flags_at, leaf_at, set_at, signed_date_at}
@@ -60,3 +61,10 @@ well_read s i =
     let c = subst (Weekdays s g) r (set_end s g) in
     cond_both (is_window w.minimum w.maximum) (found (leaf_of w.minimum w.maximum set) end) (refused (at_byte 8 i)) (WellRead days s i)
     (λ t. (leaf_lawful w.minimum w.maximum set b.0 b.1 t c.0, omega (arith, a.0, b.2, c.1), c.2)) (λ _. tt))))
+
+-- a leaf that would start past the end
+leaf_past : (s : List ℕ) (i : ℕ) → length s ≤ i → leaf_at s i ≡ refused (at_byte 2 (length s))
+leaf_past s i h = rw (byte_past s i h) refl
+
+pub leaf_from_end : (s : List ℕ) (i : ℕ) → leaf_at s (min i (length s)) ≡ leaf_at s i
+leaf_from_end = from_end leaf_at leaf_past

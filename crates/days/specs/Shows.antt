@@ -2,7 +2,8 @@
 use Rattle.std.specs.Prelude.{◌≡◌, ℕ, ◌+◌, ◌<◌, ◌≤◌, true, false, Some, None, nat_le, nat_lt, refl}
 use Rattle.std.proofs.Common.{sym, ap, ◌∙◌, arith}
 use Rattle.std.proofs.lemmas.Bool.{leb-true, leb-false, le-leb, lt-leb, ltb-true, ltb-false, lt-ltb, cond_both, and_parts, and_from}
-use Rattle.leaf.specs.Kind.{Laws, same_rule}
+use Rattle.leaf.specs.Kind.{Joins, Laws, Lawful, same_rule}
+use Rattle.leaf.specs.Laws.Hulls.{hull_window, joins_hull}
 use Rattle.leaf.specs.Numbers.{has_bit}
 use Rattle.days.specs.declared.day_leaf.DayLeaf.{DayLeaf}
 use Rattle.days.specs.Calendar.{is_day_number, weekday}
@@ -10,7 +11,7 @@ use Rattle.days.specs.Weekdays.{holds, is_on_grid}
 use Rattle.days.specs.Days.{days}
 use Rattle.days.specs.Grid.{absent, grid_day, next_grid, next_least, next_none}
 use Rattle.days.specs.Sets.{holds_self, holds_trans, holds_anti, holds_has}
-use Rattle.days.specs.Lawful.{lawful_parts, same_window, widened_lawful}
+use Rattle.days.specs.Lawful.{lawful_parts, same_window, window_lawful}
 use Rattle.days.specs.Read.{well_read}
 
 total : (a b : ℕ) → nat_le a b ≡ false → nat_le b a ≡ true
@@ -39,6 +40,16 @@ succ_is v w = cond_both (nat_lt v 73048) (Some (v + 1)) None (λ r. r ≡ Some w
 succ_last : (v : ℕ) → days.succ v ≡ None → 73048 ≤ v
 succ_last v = cond_both (nat_lt v 73048) (Some (v + 1)) None (λ r. r ≡ None → 73048 ≤ v) (λ t e. absurd (absent (v + 1) (sym e))) (λ f e. ltb-false v 73048 f)
 
+joined : (a b : DayLeaf) → Lawful days a → Lawful days b → Joins days a b (days.join a b)
+joined a b p q =
+    let x = lawful_parts a.bounds.minimum a.bounds.maximum a.weekdays p in
+    let y = lawful_parts b.bounds.minimum b.bounds.maximum b.weekdays q in
+    let j = days.join a b in
+    let w =
+    hull_window days total trans a.bounds.minimum a.bounds.maximum b.bounds.minimum b.bounds.maximum (sym (same_window a.bounds.minimum a.bounds.maximum) ∙ x.0)
+    (sym (same_window b.bounds.minimum b.bounds.maximum) ∙ y.0) in
+    joins_hull days total trans a b j (window_lawful j.bounds.minimum j.bounds.maximum a.weekdays w x.1) (tied a j refl) refl refl
+
 pub days_laws : Laws days
 days_laws = record {
   le_total = total;
@@ -58,10 +69,7 @@ days_laws = record {
   next_grid = λ a v w p q e. let n = next_grid a.weekdays v w e in (n.0, lt-leb w v n.1);
   next_least = λ a v w u p q e g h. le-leb w u (next_least a.weekdays v w u e g (leb-false u v h));
   next_none = λ a v u p q e g. le-leb u v (next_none a.weekdays v u e g);
-  widened_lawful = λ a b x y p q s w. widened_lawful x y a.weekdays w (lawful_parts a.bounds.minimum a.bounds.maximum a.weekdays p).1;
-  widened_rule = λ a b x y p q s w. tied a (days.widened a b x y) refl;
-  widened_minimum = λ a b x y. refl;
-  widened_maximum = λ a b x y. refl;
+  joins = λ a b p q. joined a b p q;
   covers_refl = λ a b p q s. ap (λ w. holds a.weekdays w) (sym (one_rule a b s)) ∙ holds_self a.weekdays;
   covers_trans = λ a b c p q r h i. holds_trans a.weekdays b.weekdays c.weekdays h i;
   covers_anti = λ a b p q h i. tied a b (holds_anti a.weekdays b.weekdays h i);

@@ -63,11 +63,9 @@ impl Leaf<u32> for DayLeaf {
         holds_set(self.weekdays, other.weekdays)
     }
 
-    fn widened(&self, other: &DayLeaf, bounds: Bounds<u32>) -> DayLeaf
-        ensures { result ≡ days.widened self.now other.now bounds.minimum bounds.maximum }
-    {
+    fn join(&self, other: &DayLeaf) -> DayLeaf {
         DayLeaf {
-            bounds,
+            bounds: self.bounds.hull(other.bounds),
             weekdays: self.weekdays,
         }
     }
@@ -77,15 +75,15 @@ impl Leaf<u32> for DayLeaf {
     }
 
     // In each kind, since each says besides what its leaf means.
-    #[tactic(auto, using(crate::proofs::Grammar::read_means, crate::proofs::Grammar::days_stand))]
+    #[tactic(auto, using(crate::specs::Read::leaf_from_end, crate::proofs::Grammar::read_means, crate::proofs::Grammar::days_stand))]
     fn read(sheet: &[u8], start: usize, place: &mut DayLeaf) -> Result<usize, Fault>
         ensures reads { Fills (days.reading sheet.now start) place.old place.new result }
         ensures grammar { DaysStand }
         ensures means { ReadMeans }
     {
-        let mut reader = Reader { sheet, at: start };
+        let mut reader = Reader::new(sheet, start);
         *place = read_leaf(&mut reader)?;
-        Ok(reader.at)
+        Ok(reader.at())
     }
 
     ghost lawfully = { days_laws };

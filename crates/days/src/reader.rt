@@ -13,7 +13,7 @@ const FLAGS: u8 = 4;
 fn read_flags(reader: &mut Reader<'_>) -> Result<u8, Fault>
     ensures { Reads flags_at reader.old reader.new result }
 {
-    let start = reader.at;
+    let start = reader.at();
     let flags = reader.byte()?;
     if flags >= FLAGS {
         return Err(Fault::at(Refusal::UnknownByte, start));
@@ -25,7 +25,7 @@ fn read_flags(reader: &mut Reader<'_>) -> Result<u8, Fault>
 fn read_weekdays(reader: &mut Reader<'_>) -> Result<u8, Fault>
     ensures { Reads set_at reader.old reader.new result }
 {
-    let start = reader.at;
+    let start = reader.at();
     let set = reader.number()?;
     if !is_set(set) {
         return Err(Fault::at(Refusal::BadWeekdays, start));
@@ -37,7 +37,7 @@ fn read_weekdays(reader: &mut Reader<'_>) -> Result<u8, Fault>
 pub(crate) fn read_leaf(reader: &mut Reader<'_>) -> Result<DayLeaf, Fault>
     ensures { Reads leaf_at reader.old reader.new result }
 {
-    let start = reader.at;
+    let start = reader.at();
     let flags = read_flags(reader)?;
     let bounds = Bounds::read::<Date>(reader, flags)?;
     let weekdays = read_weekdays(reader)?;

@@ -71,8 +71,11 @@ then (Ok x) f = f x
 then (Err r) f = Err r
 
 -- the refusal with a number: at a byte, or naming none
+abbrev pub refused_at : ℕ → Option ℕ → Refused
+refused_at n b = record { number = n; byte = b; layer = layer_of n }
+
 abbrev pub at_byte : ℕ → ℕ → Refused
-at_byte n b = record { number = n; byte = Some b; layer = layer_of n }
+at_byte n b = refused_at n (Some b)
 
 abbrev pub unplaced : ℕ → Refused
-unplaced n = record { number = n; byte = None; layer = layer_of n }
+unplaced n = refused_at n None

@@ -3,8 +3,8 @@ use Rattle.std.proofs.Common.{◌≡◌, ℕ, zero, suc, ◌+◌, ◌*◌, ◌^�
 use native.Mathlib.Numerals.{unary_clauses}
 use Rattle.std.proofs.lemmas.List.{append_assoc, length-append, append-nil}
 use Rattle.leaf.specs.Encoding.{Follow, value, Written, CutShort, Overlong, Beginning, Told, Shortest, NumbersStand}
-use Rattle.leaf.proofs.Writing.{numbers, one_of, one_of_three}
-use Rattle.leaf.proofs.Encodes.{one_to_one, positive}
+use Rattle.leaf.specs.Laws.Writing.{numbers, one_of, one_of_three}
+use Rattle.leaf.specs.Laws.Encodes.{one_to_one, positive}
 
 small : (k : ℕ) (front : List ℕ) → length front ≤ k → value front 1 < 2 * 128 ^ k
 small zero [] h = omega arith

@@ -20,8 +20,8 @@ pub record Kind (V L : Type 0) : Type 0 where
   pub rule_admits : L → V → Bool
   pub next_on_grid : L → V → Option V
   pub rule_covers : L → L → Bool
-  -- two leaves of one rule made one, with a minimum and a maximum
-  pub widened : L → L → Option V → Option V → L
+  -- one leaf for two: the rule of the first, in a window round both
+  pub join : L → L → L
   -- whether a sheet of this kind may begin with that byte
   pub kind_byte : ℕ → Bool
   -- the leaf that starts at a byte of a sheet
@@ -93,10 +93,6 @@ module _ {V L : Type 0} (k : Kind V L) where
   abbrev pub covers : L → L → Bool
   covers a b = ext_le k.le (from (k.minimum a)) (from (k.minimum b)) && (ext_le k.le (upto (k.maximum b)) (upto (k.maximum a)) && k.rule_covers a b)
 
-  -- the join: one leaf of the rule, with the lower minimum and the higher maximum
-  abbrev pub join : L → L → L
-  join a b = k.widened a b (lower_of k.le (k.minimum a) (k.minimum b)) (higher_of k.le (k.maximum a) (k.maximum b))
-
   -- the lower of two minimums: no higher than either, and one of them; the higher of two maximums likewise
   abbrev pub Lower : Option V → Option V → Option V → Type 0
   Lower r a b = (ext_le k.le (from r) (from a) ≡ true) × (ext_le k.le (from r) (from b) ≡ true) × ((r ≡ a) ⊎ (r ≡ b))
@@ -115,7 +111,7 @@ module _ {V L : Type 0} (k : Kind V L) where
   abbrev pub Lawful : L → Type 0
   Lawful a = k.lawful a ≡ true
 
-  -- what a join is: lawful, of the rule, with the lower minimum and the higher maximum
+  -- what a join is: lawful, of the rule of the first, with the lower minimum and the higher maximum
   pub record Joins (a b r : L) : Type 0 where
     pub lawful : Lawful r
     pub rule : same_rule a r ≡ true
@@ -151,11 +147,8 @@ module _ {V L : Type 0} (k : Kind V L) where
     pub next_grid : (a : L) (v w : V) → Lawful a → k.is_value v ≡ true → k.next_on_grid a v ≡ Some w → (k.on_grid a w ≡ true) × (k.le w v ≡ false)
     pub next_least : (a : L) (v w u : V) → Lawful a → k.is_value v ≡ true → k.next_on_grid a v ≡ Some w → k.on_grid a u ≡ true → k.le u v ≡ false → k.le w u ≡ true
     pub next_none : (a : L) (v u : V) → Lawful a → k.is_value v ≡ true → k.next_on_grid a v ≡ None → k.on_grid a u ≡ true → k.le u v ≡ true
-    -- two leaves of one rule made one: lawful, of that rule, with the bounds given
-    pub widened_lawful : (a b : L) (x y : Option V) → Lawful a → Lawful b → same_rule a b ≡ true → is_value_window x y ≡ true → Lawful (k.widened a b x y)
-    pub widened_rule : (a b : L) (x y : Option V) → Lawful a → Lawful b → same_rule a b ≡ true → is_value_window x y ≡ true → same_rule a (k.widened a b x y) ≡ true
-    pub widened_minimum : (a b : L) (x y : Option V) → k.minimum (k.widened a b x y) ≡ x
-    pub widened_maximum : (a b : L) (x y : Option V) → k.maximum (k.widened a b x y) ≡ y
+    -- of any two leaves the join is lawful, of the rule of the first, with the lower minimum and the higher maximum
+    pub joins : (a b : L) → Lawful a → Lawful b → Joins a b (k.join a b)
     -- the cover relation: reflexive, transitive, two rules that cover each other are equal, and a covered rule admits nothing more
     pub covers_refl : (a b : L) → Lawful a → Lawful b → same_rule a b ≡ true → k.rule_covers a b ≡ true
     pub covers_trans : (a b c : L) → Lawful a → Lawful b → Lawful c → k.rule_covers a b ≡ true → k.rule_covers b c ≡ true → k.rule_covers a c ≡ true

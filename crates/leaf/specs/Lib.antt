@@ -1,6 +1,7 @@
 pub mod Numbers
 pub mod Encoding
 pub mod Kind
+pub mod Laws
 pub mod Reading
 pub mod Fields
 pub mod Layouts

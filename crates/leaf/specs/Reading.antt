@@ -1,8 +1,15 @@
 -- A sheet that is read part by part.
-use Rattle.std.specs.Prelude.{◌≡◌, ℕ, ◌+◌, List, [], ◌∷◌, length, drop, Ok, Err, Result}
+use Rattle.std.specs.Prelude.{◌≡◌, ℕ, ◌+◌, ◌-◌, List, [], ◌∷◌, length, drop, Ok, Err, Result}
 use Rattle.faults.specs.declared.fault.Fault.{Fault}
 use Rattle.leaf.specs.declared.reader.Reader.{Reader}
 use Rattle.faults.specs.Faults.{Answer, found, refused, at_byte, shown}
+
+-- the whole sheet, and the place on it of the byte that comes next
+abbrev pub sheet_of : Reader → List ℕ
+sheet_of r = r.sheet.now
+
+abbrev pub at_of : Reader → ℕ
+at_of r = length r.sheet.now - length r.rest.now
 
 -- what a call read up to a byte, or its refusal
 abbrev pub up_to : {A : Type 0} → Result A Fault → ℕ → Answer A
@@ -15,11 +22,11 @@ up_to_as meaning (Err f) end = refused (shown f)
 
 -- a part is read as a definition says of the sheet and the byte where the reader stood, and the reader stands behind it; the sheet stays
 abbrev pub Reads : {A : Type 0} → (List ℕ → ℕ → Answer A) → Reader → Reader → Result A Fault → Type 0
-Reads part old new r = (new.sheet.now ≡ old.sheet.now) × (up_to r new.at ≡ part old.sheet.now old.at)
+Reads part old new r = (sheet_of new ≡ sheet_of old) × (up_to r (at_of new) ≡ part (sheet_of old) (at_of old))
 
 -- the same, where what was read is told by what it stands for
 abbrev pub ReadsAs : {A B : Type 0} → (A → B) → (List ℕ → ℕ → Answer B) → Reader → Reader → Result A Fault → Type 0
-ReadsAs meaning part old new r = (new.sheet.now ≡ old.sheet.now) × (up_to_as meaning r new.at ≡ part old.sheet.now old.at)
+ReadsAs meaning part old new r = (sheet_of new ≡ sheet_of old) × (up_to_as meaning r (at_of new) ≡ part (sheet_of old) (at_of old))
 
 -- the byte that stands there; where none does, the sheet ends too early
 abbrev pub byte_in : ℕ → ℕ → List ℕ → Answer ℕ

@@ -2,8 +2,12 @@
 use Rattle.std.specs.Prelude.{ℕ, Bool, true, false, cond, List, Some, None, Ok, Err, Option, Result}
 use Rattle.leaf.specs.declared.bounds.Bounds.{Bounds}
 use Rattle.faults.specs.Faults.{Answer, Refused, found, refused, next, then, at_byte, unplaced}
-use Rattle.leaf.specs.Kind.{is_window_of}
+use Rattle.leaf.specs.Kind.{higher_of, is_window_of, lower_of}
 use Rattle.leaf.specs.Numbers.{has_bit}
+
+-- the smallest window round two: the lower minimum and the higher maximum, an absent one being outermost
+abbrev pub hull_of : {V : Type 0} → (V → V → Bool) → Bounds V → Bounds V → Bounds V
+hull_of le a b = record { minimum = lower_of le a.minimum b.minimum; maximum = higher_of le a.maximum b.maximum }
 
 module _ {V : Type 0} where
   -- what was written has to be a value: a maker's refusal names no byte, a reader's the first byte of the bound

@@ -1,4 +1,5 @@
-ghost use Rattle.leaf.specs.Kind.{ext_le, from, higher_of, is_window_of, lower_of, upto, value};
+ghost use Rattle.leaf.specs.Kind.{ext_le, from, is_window_of, upto, value};
+ghost use Rattle.leaf.specs.Windows.{hull_of};
 ghost use Rattle.std.specs.Ordering.{partial_le};
 ghost use Rattle.std.specs.Prelude.{◌≡◌, ◌&&◌};
 
@@ -19,6 +20,22 @@ impl<V: Copy + PartialOrd> Bounds<V> {
         self.minimum
             .zip(self.maximum)
             .is_none_or(|(low, high)| low <= high)
+    }
+
+    /// The lower minimum and the higher maximum of two windows.
+    pub fn hull(self, other: Bounds<V>) -> Bounds<V>
+        ensures { result ≡ hull_of (partial_le V.partial_cmp) self other }
+    {
+        Bounds {
+            minimum: self
+                .minimum
+                .zip(other.minimum)
+                .map(|(a, b)| if a <= b { a } else { b }),
+            maximum: self
+                .maximum
+                .zip(other.maximum)
+                .map(|(a, b)| if a <= b { b } else { a }),
+        }
     }
 }
 
@@ -48,17 +65,4 @@ pub fn includes<V: Copy, L: Leaf<V>>(outer: Bounds<V>, inner: Bounds<V>) -> bool
     ensures { result ≡ (ext_le L.kind.le (from outer.minimum) (from inner.minimum) && ext_le L.kind.le (upto inner.maximum) (upto outer.maximum)) }
 {
     is_low::<V, L>(outer.minimum, inner.minimum) && is_high::<V, L>(inner.maximum, outer.maximum)
-}
-
-// The lower minimum and the higher maximum of two windows.
-pub fn hull<V: Copy, L: Leaf<V>>(a: Bounds<V>, b: Bounds<V>) -> Bounds<V>
-    ensures low { result.minimum ≡ lower_of L.kind.le a.minimum b.minimum }
-    ensures high { result.maximum ≡ higher_of L.kind.le a.maximum b.maximum }
-{
-    let a_is_low = is_low::<V, L>(a.minimum, b.minimum);
-    let b_is_high = is_high::<V, L>(a.maximum, b.maximum);
-    Bounds {
-        minimum: if a_is_low { a.minimum } else { b.minimum },
-        maximum: if b_is_high { b.maximum } else { a.maximum },
-    }
 }

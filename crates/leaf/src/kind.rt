@@ -1,17 +1,18 @@
 ghost use Rattle.faults.specs.Faults.{Fills};
-ghost use Rattle.leaf.specs.Kind.{Joins, Kind, Lawful, Laws, before, same_rule, touches};
-ghost use Rattle.leaf.specs.Kind.{admits as admitted, covers as covering, join as joined};
-ghost use Rattle.std.specs.Prelude.{◌≡◌, true};
+ghost use Rattle.leaf.specs.Kind.{Kind, Lawful, Laws, before, touches};
+ghost use Rattle.leaf.specs.Kind.{admits as admitted, covers as covering};
+ghost use Rattle.std.specs.Prelude.{◌≡◌};
 
-use crate::bounds::{Bounds, contains, hull, includes, is_low};
+use crate::bounds::{Bounds, contains, includes, is_low};
 use faults::Fault;
 
 // A kind of leaf over the values V. Each question answers for every leaf, lawful or not; the laws are of lawful ones.
 pub trait Leaf<V: Copy>: Copy {
     ghost kind: { Kind V Self };
 
-    // Any leaf: a place to read into.
-    fn blank() -> Self;
+    /// A lawful leaf, whichever: a place to read into.
+    fn blank() -> Self
+        ensures { Lawful kind result };
 
     // The order of the values.
     fn at_most(a: V, b: V) -> bool
@@ -43,9 +44,9 @@ pub trait Leaf<V: Copy>: Copy {
     fn rule_covers(&self, other: &Self) -> bool
         ensures { result ≡ kind.rule_covers self.now other.now };
 
-    // Two leaves of one rule made one, with these bounds.
-    fn widened(&self, other: &Self, bounds: Bounds<V>) -> Self
-        ensures { result ≡ kind.widened self.now other.now bounds.minimum bounds.maximum };
+    /// One leaf for two: this one's rule, the lower minimum and the higher maximum.
+    fn join(&self, other: &Self) -> Self
+        ensures { result ≡ kind.join self.now other.now };
 
     // Whether a sheet of this kind may begin with that byte.
     fn is_kind(b: u8) -> bool
@@ -102,12 +103,4 @@ pub fn covers<V: Copy, L: Leaf<V>>(a: &L, b: &L) -> bool
     ensures { result ≡ covering L.kind a.now b.now }
 {
     includes::<V, L>(bounds_of(a), bounds_of(b)) && a.rule_covers(b)
-}
-
-// Two leaves of one rule joined: the lower minimum and the higher maximum.
-pub fn join<V: Copy, L: Leaf<V>>(a: &L, b: &L) -> L
-    ensures value { result ≡ joined L.kind a.now b.now }
-    ensures joins { Lawful L.kind a.now → Lawful L.kind b.now → same_rule L.kind a.now b.now ≡ true → Joins L.kind a.now b.now result }
-{
-    a.widened(b, hull::<V, L>(bounds_of(a), bounds_of(b)))
 }

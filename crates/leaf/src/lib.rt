@@ -8,10 +8,9 @@ mod reader;
 mod sheet;
 mod written;
 
-pub use bounds::{Bounds, contains, hull, includes};
+pub use bounds::{Bounds, contains, includes};
 pub use faults::{Fault, Layer, Refusal};
-pub use kind::{Leaf, adjoins, admits, bounds_of, covers, join, no_later};
-pub use numbers::number;
+pub use kind::{Leaf, adjoins, admits, bounds_of, covers, no_later};
 pub use reader::Reader;
 pub use sheet::{has_flag, rest_of};
 pub use written::WrittenBound;

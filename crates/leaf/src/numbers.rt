@@ -1,28 +1,22 @@
 ghost use Rattle.std.specs.Prelude.{◌≡◌, ◌<◌, ◌≤◌, length, IfOk};
-ghost use Rattle.leaf.specs.Encoding.{NumbersStand};
 ghost use Rattle.faults.specs.Faults.{seen};
-ghost use Rattle.leaf.specs.Numbers.{groups_of, judged, moved, number_at};
+ghost use Rattle.leaf.specs.Numbers.{groups_of, judged, moved};
 
-use crate::sheet::rest_of;
 use faults::{Fault, Refusal};
 
 // The most bytes of a number.
 const MOST: u32 = 10;
 
-// The number whose first byte stands at `start`, and the place past its last byte: a public call, which stays beside the reader.
-#[tactic(auto, using(crate::proofs::Beginnings::numbers_stand), unfolding(crate::specs::Numbers::number_at))]
-pub fn number(sheet: &[u8], start: usize) -> Result<(u64, usize), Fault>
-    ensures within { IfOk result (λ p. (start < p.1) × (p.1 ≤ length sheet.now)) }
-    ensures reads { seen result ≡ number_at sheet.now start }
-    ensures laws { NumbersStand }
+// The number at the front of `rest`, and how many bytes it has; both places are of the sheet, whose end `rest` reaches.
+pub(crate) fn number(rest: &[u8], start: usize, end: usize) -> Result<(u64, usize), Fault>
+    ensures within { IfOk result (λ p. (0 < p.1) × (p.1 ≤ length rest.now)) }
+    ensures reads { moved start (seen result) ≡ judged end start (groups_of 10 rest.now) }
 {
-    let rest = rest_of(sheet, start);
     // Most numbers are of one byte.
     if let [first @ ..0x80, ..] = rest {
-        return Ok((u64::from(*first), start + 1));
+        return Ok((u64::from(*first), 1));
     }
-    let (value, used) = groups(rest, MOST, start, sheet.len())?;
-    Ok((value, start + used))
+    groups(rest, MOST, start, end)
 }
 
 // The value of the groups at the front of `rest`, at most `left` of them, and how many they are.

@@ -1,35 +1,61 @@
-ghost use Rattle.leaf.specs.Numbers.{number_at};
-ghost use Rattle.leaf.specs.Reading.{Reads, byte_at};
+ghost use Rattle.std.specs.Prelude.{◌≡◌, ◌-◌, drop, length, min, OnErr};
 
 use crate::numbers::number;
 use crate::sheet::rest_of;
 use faults::{Fault, Refusal};
 
-// A sheet, and the byte where the next part starts. After a refusal it may stand anywhere.
+/// A sheet that is read part by part: the reader takes the first byte of what is left and goes on with the rest.
 #[derive(Clone, Copy)]
 pub struct Reader<'a> {
-    pub sheet: &'a [u8],
-    pub at: usize,
+    sheet: &'a [u8],
+    rest: &'a [u8],
+    ghost stands: { rest.now ≡ drop (length sheet.now - length rest.now) sheet.now },
 }
 
 impl<'a> Reader<'a> {
-    // The byte that stands here.
-    pub fn byte(&mut self) -> Result<u8, Fault>
-        ensures { Reads byte_at self.old self.new result }
+    ghost use Rattle.leaf.specs.Encoding.{NumbersStand};
+    ghost use Rattle.leaf.specs.Numbers.{number_at};
+    ghost use Rattle.leaf.specs.Reading.{Reads, at_of, byte_at, sheet_of};
+
+    /// From a byte of the sheet on; with nothing left where `start` lies past its end.
+    pub fn new(sheet: &'a [u8], start: usize) -> Reader<'a>
+        ensures sheet { sheet_of result ≡ sheet.now }
+        ensures at { at_of result ≡ min start (length sheet.now) }
     {
-        let [byte, ..] = rest_of(self.sheet, self.at) else {
+        Reader {
+            sheet,
+            rest: rest_of(sheet, start),
+        }
+    }
+
+    /// The place on the sheet of the byte that comes next.
+    pub fn at(&self) -> usize
+        ensures { result ≡ at_of self.now }
+    {
+        self.sheet.len() - self.rest.len()
+    }
+
+    /// The byte that stands here. A refusal leaves the reader as it was.
+    pub fn byte(&mut self) -> Result<u8, Fault>
+        ensures reads { Reads byte_at self.old self.new result }
+        ensures kept { OnErr result (self.new ≡ self.old) }
+    {
+        let [byte, rest @ ..] = self.rest else {
             return Err(Fault::at(Refusal::EndsEarly, self.sheet.len()));
         };
-        self.at += 1;
+        self.rest = rest;
         Ok(*byte)
     }
 
-    // The number that starts here.
+    /// The number that starts here. A refusal leaves the reader as it was.
+    #[tactic(auto, using(crate::proofs::Beginnings::numbers_stand), unfolding(crate::specs::Numbers::number_at))]
     pub fn number(&mut self) -> Result<u64, Fault>
-        ensures { Reads number_at self.old self.new result }
+        ensures reads { Reads number_at self.old self.new result }
+        ensures kept { OnErr result (self.new ≡ self.old) }
+        ensures laws { NumbersStand }
     {
-        let (n, end) = number(self.sheet, self.at)?;
-        self.at = end;
+        let (n, size) = number(self.rest, self.at(), self.sheet.len())?;
+        self.rest = &self.rest[size..];
         Ok(n)
     }
 }

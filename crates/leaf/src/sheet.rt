@@ -1,9 +1,10 @@
 ghost use Rattle.leaf.specs.Numbers.{has_bit};
-ghost use Rattle.std.specs.Prelude.{◌≡◌, drop};
+ghost use Rattle.std.specs.Prelude.{◌≡◌, ◌+◌, drop, length, min};
 
-// The part of the sheet from `start` on, empty where `start` lies past its end: a public call, which stays beside the reader.
+/// The caller's own bytes from `start` to the end of the sheet, none where `start` lies past it.
 pub fn rest_of<'a>(sheet: &'a [u8], start: usize) -> &'a [u8]
-    ensures { result.now ≡ drop start sheet.now }
+    ensures bytes { result.now ≡ drop start sheet.now }
+    ensures part { result.ref_ptr ≡ (sheet.entry.ref_ptr.0, sheet.entry.ref_ptr.1 + min start (length sheet.now)) }
 {
     let at = start.min(sheet.len());
     &sheet[at..]

@@ -47,7 +47,7 @@ fn read_bound<W: WrittenBound>(
     if !present {
         return Ok(None);
     }
-    let start = reader.at;
+    let start = reader.at();
     let written = W::read(reader, negative)?;
     match written.value() {
         None => Err(Fault::at(Refusal::OutOfRange, start)),
@@ -57,7 +57,7 @@ fn read_bound<W: WrittenBound>(
 
 impl<V: Copy + PartialOrd> Bounds<V> {
     // The window of bounds as written. Refused are, in this order and naming no byte: 7 a bound that is no value, 8 a minimum above the maximum.
-    #[tactic(auto, using(crate::proofs::Deciding::windows_judged))]
+    #[tactic(auto, using(crate::specs::Laws::Deciding::windows_judged))]
     pub fn of_written<W: WrittenBound<Value = V>>(
         minimum: Option<W>,
         maximum: Option<W>,

@@ -19,3 +19,4 @@ pub mod Feeds
 pub mod Outcomes
 pub mod Encoded
 pub mod Stops
+pub mod LawfulLines

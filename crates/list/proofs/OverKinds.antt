@@ -4,8 +4,7 @@ use Rattle.std.proofs.lemmas.Bool.{cases_Bool, both_ways, and_parts, and_from, a
 use Rattle.list.specs.Lists.{Any, Pairs}
 use Rattle.list.proofs.Core.{Ops, Laws, Lt, Same, Within, Gap, Up}
 use Rattle.list.proofs.Core
-use Rattle.leaf.specs.Kind.{Kind, Laws as KindLaws, Ext, ext_le, from, upto, none_below, gapless, same_rule, touches, admits, before, join, is_bound}
-use Rattle.leaf.proofs.Hulls.{join_joins}
+use Rattle.leaf.specs.Kind.{Kind, Laws as KindLaws, Ext, ext_le, from, upto, none_below, gapless, same_rule, touches, admits, before, is_bound}
 use Rattle.list.specs.Readings.{InWindow, Holds, Between, Apart, Made}
 use Rattle.leaf.specs.Kind.Ext.{bottom, value, top}
 use Rattle.list.proofs.Rows.{any_map, all_map2}
@@ -27,7 +26,7 @@ module _ {V L : Type 0} (m : Kind V L) where
     rle = m.rule_le;
     grid = λ a. inside (m.on_grid a);
     touch = touches m;
-    join = join m;
+    join = m.join;
     rcov = m.rule_covers;
   }
 
@@ -116,14 +115,14 @@ module _ {V L : Type 0} (m : Kind V L) (k : KindLaws m) where
     touch_same = λ a b p q t. untie a b (and_parts (same_rule m a b) (gapless m.le (m.next_on_grid a) (m.maximum a) (m.minimum b)) t).0;
     touch_none = λ a b p q t g. touch_none a b p (m.maximum a) (m.minimum b) refl (and_parts (same_rule m a b) (gapless m.le (m.next_on_grid a) (m.maximum a) (m.minimum b)) t).1 g.0 g.1 g.2 g.3;
     touch_gap = λ a b p q t s. touch_gap a p (m.maximum a) (m.minimum b) refl (elim (and_cases (same_rule m a b) (gapless m.le (m.next_on_grid a) (m.maximum a) (m.minimum b)) t) [ inl f ↦ absurd (both_ways (same_rule m a b) f (tie a b s)) | inr f ↦ f ]);
-    join_ok = λ a b p q s. (join_joins m k a b p q (tie a b s)).lawful;
-    join_left = λ a b p q s. let j = join_joins m k a b p q (tie a b s) in (untie a (join m a b) j.rule, j.minimum.0, j.maximum.0);
+    join_ok = λ a b p q s. (k.joins a b p q).lawful;
+    join_left = λ a b p q s. let j = k.joins a b p q in (untie a (m.join a b) j.rule, j.minimum.0, j.maximum.0);
     join_right = λ a b p q s.
-        let j = join_joins m k a b p q (tie a b s) in
-        let u = untie a (join m a b) j.rule in
-        ((k.rule_trans b a (join m a b) q p j.lawful s.1 u.0, k.rule_trans (join m a b) a b j.lawful p q u.1 s.0), j.minimum.1, j.maximum.1);
-    join_lo = λ a b p q s. elim (join_joins m k a b p q (tie a b s)).minimum.2 [ inl e ↦ inl (ap {B = Ext V} from e) | inr e ↦ inr (ap {B = Ext V} from e) ];
-    join_hi = λ a b p q s. elim (join_joins m k a b p q (tie a b s)).maximum.2 [ inl e ↦ inl (ap {B = Ext V} upto e) | inr e ↦ inr (ap {B = Ext V} upto e) ];
+        let j = k.joins a b p q in
+        let u = untie a (m.join a b) j.rule in
+        ((k.rule_trans b a (m.join a b) q p j.lawful s.1 u.0, k.rule_trans (m.join a b) a b j.lawful p q u.1 s.0), j.minimum.1, j.maximum.1);
+    join_lo = λ a b p q s. elim (k.joins a b p q).minimum.2 [ inl e ↦ inl (ap {B = Ext V} from e) | inr e ↦ inr (ap {B = Ext V} from e) ];
+    join_hi = λ a b p q s. elim (k.joins a b p q).maximum.2 [ inl e ↦ inl (ap {B = Ext V} upto e) | inr e ↦ inr (ap {B = Ext V} upto e) ];
     rcov_same = λ a b p q s. k.covers_refl a b p q (tie a b s);
     rcov_trans = k.covers_trans;
     rcov_anti = λ a b p q c d. untie a b (k.covers_anti a b p q c d);

@@ -1,6 +1,6 @@
 -- Runs of calls on one list and its table, and what the lines after a run are held to.
 use Rattle.std.specs.Prelude.{◌≡◌, ℕ, true, false, cond, ◌↔◌, List, [], ◌∷◌, ◌++◌}
-use Rattle.leaf.specs.Kind.{Kind, Lawful, same_rule, touches, admits, before, covers, join}
+use Rattle.leaf.specs.Kind.{Kind, Lawful, same_rule, touches, admits, before, covers}
 use Rattle.list.specs.Lists.{All, Any, In, Pairs, inserted, joined, kept}
 use Rattle.list.specs.Sheets.{is_full, sheet_outcome}
 use Rattle.list.specs.Readings.{Between, Reads, Pinned, OneReading}
@@ -17,7 +17,7 @@ pub data Call (V L : Type 0) : Type 0 where
 module _ {V L : Type 0} (k : Kind V L) where
   -- a reading: neighbours are joined, then what another covers is dropped
   abbrev pub reading : List L → List L
-  reading h = kept (covers k) (joined (touches k) (join k) h)
+  reading h = kept (covers k) (joined (touches k) k.join h)
 
   -- what one call does to the leaves held in a table of n places
   abbrev pub after : ℕ → List L → Call V L → List L

@@ -1,7 +1,7 @@
 ghost use Rattle.std.specs.Prelude.{◌≡◌, ◌≤◌, true, false, List, [], length, take, if◌then◌else◌, ◌==◌, nat_lt, slice_index_or};
-ghost use Rattle.faults.specs.Faults.{unplaced};
+ghost use Rattle.faults.specs.Faults.{refused_at, unplaced};
 ghost use Rattle.leaf.specs.Kind.{Lawful, before, admits as admitted};
-ghost use Rattle.list.specs.Lists.{Placed, any};
+ghost use Rattle.list.specs.Lists.{All, Placed, any};
 ghost use Rattle.list.specs.Runs.{Call, Promised, Promises, after, reading};
 ghost use Rattle.list.specs.Runs.Call.{admits? as call_admits, count as call_count, empty? as call_empty, insert as call_insert, line as call_line};
 ghost use Rattle.list.specs.Sheets.{is_full};
@@ -51,16 +51,16 @@ impl<'a, V: Copy, L: Leaf<V>> Leaves<'a, V, L> {
         }
     }
 
-    // Puts the leaf into its place; refuses, and changes nothing, exactly when the leaves held fill the table.
-    pub(crate) fn accept(&mut self, leaf: L) -> Result<(), Refusal>
+    // Puts the leaf into its place; refuses at the byte given, and changes nothing, exactly when the leaves held fill the table.
+    pub(crate) fn accept(&mut self, leaf: L, byte: Option<usize>) -> Result<(), Fault>
         ensures table { SameTable self.old self.new }
-        ensures answer { result ≡ (if is_full (places_of self.old) (held_of self.old) then Err Refusal.TableFull else Ok tt) }
+        ensures answer { refused_with result ≡ (if is_full (places_of self.old) (held_of self.old) then Some (refused_at 10 byte) else None) }
         ensures full { is_full (places_of self.old) (held_of self.old) ≡ true → self.new ≡ self.old }
         ensures held { held_of self.new ≡ after L.kind (places_of self.old) (held_of self.old) (call_insert leaf) }
         ensures flag { Unsettles self.old self.new }
     {
         if self.held >= self.table.len() {
-            return Err(Refusal::TableFull);
+            return Err(Fault::new(Refusal::TableFull, byte));
         }
         place(&mut self.table[..=self.held], leaf);
         self.held += 1;
@@ -78,7 +78,7 @@ impl<'a, V: Copy, L: Leaf<V>> Leaves<'a, V, L> {
         ensures sound { Sound L.kind self.old → Lawful L.kind leaf → Sound L.kind self.new }
         ensures run { Lawful L.kind leaf → LeadsOn L.kind (call_insert leaf) self.old self.new }
     {
-        self.accept(leaf).map_err(Fault::unplaced)
+        self.accept(leaf, None)
     }
 
     // What is held.
@@ -141,6 +141,7 @@ impl<'a, V: Copy, L: Leaf<V>> Leaves<'a, V, L> {
         ensures table { SameTable self.old self.new }
         ensures answer { result ≡ nat_lt n (length (held_of self.new)) }
         ensures filled { place.new ≡ slice_index_or (held_of self.new) n place.old }
+        ensures lawful { All (Lawful L.kind) (held_of self.old) → result ≡ true → Lawful L.kind place.new }
         ensures held { held_of self.new ≡ lines_of L.kind self.old }
         ensures lines { Settled L.kind self.old → held_of self.new ≡ reading L.kind (held_of self.old) }
         ensures read { self.new.canonical ≡ true }

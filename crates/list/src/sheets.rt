@@ -49,8 +49,7 @@ impl<'a, V: Copy, L: Leaf<V>> Leaves<'a, V, L> {
         ensures flag { Unsettles self.old self.new }
     {
         let end = L::read(bytes, at, place)?;
-        self.accept(*place)
-            .map_err(|refusal| Fault::at(refusal, at))?;
+        self.accept(*place, Some(at))?;
         Ok(end)
     }
 

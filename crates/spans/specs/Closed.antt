@@ -29,6 +29,10 @@ abbrev pub open_next : (ℕ → Option ℕ) → Option ℕ → Option ℕ → Op
 open_next step c None = None
 open_next step c (Some w) = cond (is_shut c w) (step w) (Some w)
 
+-- a leaf below without a day
+abbrev pub closed_on : {L : Type 0} → L → Option ℕ → Closed L
+closed_on x c = record { below = x; closing = record { day = c } }
+
 abbrev pub closed : {L : Type 0} → Kind ℕ L → Kind ℕ (Closed L)
 closed k = record {
   is_value = k.is_value;
@@ -42,7 +46,7 @@ closed k = record {
   rule_admits = λ a v. not (is_shut a.closing.day v) && k.rule_admits a.below v;
   next_on_grid = λ a v. open_next (k.next_on_grid a.below) a.closing.day (k.next_on_grid a.below v);
   rule_covers = λ a b. part_of a.closing.day b.closing.day && k.rule_covers a.below b.below;
-  widened = λ a b x y. record { below = k.widened a.below b.below x y; closing = a.closing };
+  join = λ a b. record { below = k.join a.below b.below; closing = a.closing };
   kind_byte = k.kind_byte;
   reading = λ s i. next (k.reading s i) (λ x m. next (closing_at s m) (λ c e. found (record { below = x; closing = c }) e));
 }

@@ -1,11 +1,14 @@
 -- Windows of every day show the laws of a kind.
-use Rattle.std.specs.Prelude.{◌≡◌, ℕ, ◌+◌, ◌^◌, ◌<◌, ◌≤◌, true, false, ◌&&◌, leb, List, length, Some, None, Option, nat_le, refl}
+use Rattle.std.specs.Prelude.{◌≡◌, ℕ, ◌+◌, ◌^◌, ◌<◌, ◌≤◌, true, false, ◌&&◌, leb, List, length, Some, None, Option, nat_le, min, refl}
 use Rattle.std.proofs.Common.{sym, ap, ◌∙◌, arith}
 use Rattle.std.proofs.lemmas.Bool.{and_from, cond_both, le-leb, leb-false, leb-true, lt-leb, ltb-false, ltb-true}
 use Rattle.faults.specs.Faults.{Answer, found, refused, at_byte}
-use Rattle.leaf.specs.Kind.{Laws, WellRead, is_value_window, ext_le, from, upto}
+use Rattle.leaf.specs.Kind.{Joins, Laws, Lawful, WellRead, is_value_window, ext_le, from, upto}
+use Rattle.leaf.specs.Laws.Hulls.{hull_window, joins_hull}
+use Rattle.leaf.specs.Laws.Starts.{from_end, number_past}
+use Rattle.spans.specs.declared.span.Span.{Span}
 use Rattle.leaf.specs.Numbers.{number_at}
-use Rattle.leaf.proofs.Chains.{ends_found, next_both, number_ends}
+use Rattle.leaf.specs.Laws.Chains.{ends_found, next_both, number_ends}
 use Rattle.spans.specs.Spans.{day_at, following, is_bound, is_day, span_at, spans, window}
 
 same_window : (x y : Option ℕ) → (is_bound x && (is_bound y && ext_le leb (from x) (upto y))) ≡ is_value_window spans x y
@@ -59,10 +62,31 @@ span_read s i =
     cond_both (nat_le low high) (found (window (Some low) (Some high)) e) (refused (at_byte 8 i)) (WellRead spans s i)
     (λ t. (and_from (is_day low) (is_day high && nat_le low high) a.0 (and_from (is_day high) (nat_le low high) b.0 t), omega arith, b.2)) (λ _. tt)))
 
+total : (a b : ℕ) → nat_le a b ≡ false → nat_le b a ≡ true
+total a b h = le-leb b a (omega (arith, leb-false a b h))
+
+trans : (a b c : ℕ) → nat_le a b ≡ true → nat_le b c ≡ true → nat_le a c ≡ true
+trans a b c h i = le-leb a c (omega (arith, leb-true a b h, leb-true b c i))
+
+joined : (a b : Span) → Lawful spans a → Lawful spans b → Joins spans a b (spans.join a b)
+joined a b p q =
+    let x = sym (same_window a.bounds.minimum a.bounds.maximum) ∙ p in
+    let y = sym (same_window b.bounds.minimum b.bounds.maximum) ∙ q in
+    joins_hull spans total trans a b (spans.join a b)
+    (same_window (spans.join a b).bounds.minimum (spans.join a b).bounds.maximum ∙ hull_window spans total trans a.bounds.minimum a.bounds.maximum b.bounds.minimum b.bounds.maximum x y)
+    refl refl refl
+
+-- a span that would start past the end
+span_past : (s : List ℕ) (i : ℕ) → length s ≤ i → span_at s i ≡ refused (at_byte 2 (length s))
+span_past s i h = rw (number_past s i h) refl
+
+pub span_from_end : (s : List ℕ) (i : ℕ) → span_at s (min i (length s)) ≡ span_at s i
+span_from_end = from_end span_at span_past
+
 pub spans_laws : Laws spans
 spans_laws = record {
-  le_total = λ a b h. le-leb b a (omega (arith, leb-false a b h));
-  le_trans = λ a b c h i. le-leb a c (omega (arith, leb-true a b h, leb-true b c i));
+  le_total = total;
+  le_trans = trans;
   le_anti = λ a b h i. omega (arith, leb-true a b h, leb-true b a i);
   succ_above = λ v w p e. above v w e;
   succ_least = λ v w u p e h. least v w u e h;
@@ -78,10 +102,7 @@ spans_laws = record {
   next_grid = λ a v w p q e. above v w e;
   next_least = λ a v w u p q e g h. least v w u e h;
   next_none = λ a v u p q e g. none v u e g;
-  widened_lawful = λ a b x y p q s w. same_window x y ∙ w;
-  widened_rule = λ a b x y p q s w. refl;
-  widened_minimum = λ a b x y. refl;
-  widened_maximum = λ a b x y. refl;
+  joins = λ a b p q. joined a b p q;
   covers_refl = λ a b p q s. refl;
   covers_trans = λ a b c p q r h i. refl;
   covers_anti = λ a b p q h i. refl;

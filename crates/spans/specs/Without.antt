@@ -5,7 +5,7 @@ use Rattle.std.proofs.lemmas.Bool.{and_from, and_parts, both_ways, cases_Bool, c
 use Rattle.faults.specs.Faults.{found, refused, at_byte}
 use Rattle.leaf.specs.Kind.{Kind, Laws, Lawful, WellRead, ext_le, from, same_rule}
 use Rattle.leaf.specs.Numbers.{number_at}
-use Rattle.leaf.proofs.Chains.{Ends, ends_found, next_both, number_ends}
+use Rattle.leaf.specs.Laws.Chains.{Ends, ends_found, next_both, number_ends}
 use Rattle.spans.specs.declared.closed.Closing.{Closing}
 use Rattle.spans.specs.declared.closed.Closed.{Closed}
 use Rattle.spans.specs.Closed.{closed, closing_at, is_shut, open_next, pair_le, part_of}
@@ -223,10 +223,9 @@ module _ {L : Type 0} (k : Kind ℕ L) (laws : Laws k) where
     next_grid = λ a v w p q e. next_grid a.below a.closing.day p v w q (k.next_on_grid a.below v) refl e;
     next_least = λ a v w u p q e g h. let o = opened a.closing.day a.below u g in next_least a.below a.closing.day p v w u q o.0 o.1 h (k.next_on_grid a.below v) refl e;
     next_none = λ a v u p q e g. let o = opened a.closing.day a.below u g in next_none a.below a.closing.day p v u q o.0 o.1 (k.next_on_grid a.below v) refl e;
-    widened_lawful = λ a b x y p q s w. laws.widened_lawful a.below b.below x y p q (tie a b s).0 w;
-    widened_rule = λ a b x y p q s w. tied a ((closed k).widened a b x y) (laws.widened_rule a.below b.below x y p q (tie a b s).0 w) refl;
-    widened_minimum = λ a b x y. laws.widened_minimum a.below b.below x y;
-    widened_maximum = λ a b x y. laws.widened_maximum a.below b.below x y;
+    joins = λ a b p q.
+        let j = laws.joins a.below b.below p q in
+        record { lawful = j.lawful; rule = tied a ((closed k).join a b) j.rule refl; minimum = j.minimum; maximum = j.maximum };
     covers_refl = λ a b p q s.
         let t = tie a b s in
         and_from (part_of a.closing.day b.closing.day) (k.rule_covers a.below b.below) (subst (λ (c : Option ℕ). part_of a.closing.day c ≡ true) t.1 (part_refl a.closing.day)) (laws.covers_refl a.below b.below p q t.0);

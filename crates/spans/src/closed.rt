@@ -1,22 +1,35 @@
-ghost use Rattle.leaf.specs.Kind.{ext_le, from};
+ghost use Rattle.leaf.specs.Kind.{Lawful, ext_le, from};
 ghost use Rattle.leaf.specs.Reading.{Reads};
-ghost use Rattle.spans.specs.Closed.{closed, closing_at, is_shut, part_of};
+ghost use Rattle.spans.specs.Closed.{closed, closed_on, closing_at, is_shut, part_of};
 ghost use Rattle.std.specs.Prelude.{◌≡◌, nat_le};
 ghost use Rattle.spans.specs.Without.{closed_laws};
 
-use leaf::{Bounds, Fault, Leaf, Reader, Refusal};
+use leaf::{Fault, Leaf, Reader, Refusal};
 
 // The day to leave out, if there is one: none comes first in the order.
 #[derive(Clone, Copy, PartialEq, Eq, PartialOrd, Ord)]
-pub struct Closing {
-    pub day: Option<u32>,
+struct Closing {
+    day: Option<u32>,
 }
 
-// A leaf of any kind at days without the closing day.
+/// A leaf of any kind at days without the closing day.
 #[derive(Clone, Copy)]
 pub struct Closed<L> {
-    pub below: L,
-    pub closing: Closing,
+    below: L,
+    closing: Closing,
+}
+
+impl<L: Leaf<u32>> Closed<L> {
+    /// The leaf below without a day, or as it is.
+    pub fn new(below: L, day: Option<u32>) -> Closed<L>
+        ensures value { result ≡ closed_on below day }
+        ensures lawful { Lawful L.kind below → Lawful (closed L.kind) result }
+    {
+        Closed {
+            below,
+            closing: Closing { day },
+        }
+    }
 }
 
 impl Closing {
@@ -44,7 +57,7 @@ impl Closing {
 fn read_closing(reader: &mut Reader<'_>) -> Result<Closing, Fault>
     ensures { Reads closing_at reader.old reader.new result }
 {
-    let start = reader.at;
+    let start = reader.at();
     let n = reader.number()?;
     if n == 0 {
         return Ok(Closing { day: None });
@@ -103,11 +116,9 @@ impl<L: Leaf<u32>> Leaf<u32> for Closed<L> {
         self.closing.is_part_of(other.closing) && self.below.rule_covers(&other.below)
     }
 
-    fn widened(&self, other: &Closed<L>, bounds: Bounds<u32>) -> Closed<L>
-        ensures { result ≡ (closed L.Leaf.kind).widened self.now other.now bounds.minimum bounds.maximum }
-    {
+    fn join(&self, other: &Closed<L>) -> Closed<L> {
         Closed {
-            below: self.below.widened(&other.below, bounds),
+            below: self.below.join(&other.below),
             closing: self.closing,
         }
     }
@@ -119,10 +130,10 @@ impl<L: Leaf<u32>> Leaf<u32> for Closed<L> {
     fn read(sheet: &[u8], start: usize, place: &mut Closed<L>) -> Result<usize, Fault> {
         let mut below = L::blank();
         let at = L::read(sheet, start, &mut below)?;
-        let mut reader = Reader { sheet, at };
+        let mut reader = Reader::new(sheet, at);
         let closing = read_closing(&mut reader)?;
         *place = Closed { below, closing };
-        Ok(reader.at)
+        Ok(reader.at())
     }
 
     ghost lawfully = { closed_laws L.Leaf.kind L.Leaf.lawfully };

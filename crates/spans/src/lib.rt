@@ -4,5 +4,5 @@
 mod closed;
 mod span;
 
-pub use closed::{Closed, Closing};
+pub use closed::Closed;
 pub use span::Span;

@@ -8,8 +8,8 @@ use Rattle.amounts.specs.Meaning.{Means, value_of}
 use Rattle.divisors.specs.Written.{refusal_of_both}
 use Rattle.amounts.specs.InRange.{amount_is, not_refused}
 use Rattle.amounts.specs.Amounts.{amounts}
-use Rattle.leaf.proofs.Made.{window_made}
-use Rattle.leaf.proofs.Windows.{int_written}
+use Rattle.leaf.specs.Laws.Made.{window_made}
+use Rattle.leaf.specs.Laws.Orders.{int_written}
 use Rattle.amounts.proofs.Making.{maker_judged}
 use Rattle.amounts.proofs.Works.{worked_leaves}
 use Rattle.amounts.proofs.amount_leaf.AmountLeaf.new.Goals as goal

@@ -4,7 +4,7 @@ use native.Mathlib.Numerals.{unary_clauses}
 use Rattle.std.proofs.lemmas.Bool.{cond_both, cond-true, cond-false, ltb-true, ltb-false, lt-ltb, le-ltb}
 use Rattle.std.proofs.lemmas.List.{append_assoc, length-append}
 use Rattle.leaf.specs.Encoding.{Follow, value, Written, encoded, encode, Bytes, OneToOne}
-use Rattle.leaf.proofs.Writing.{ten}
+use Rattle.leaf.specs.Laws.Writing.{ten}
 
 -- a row of groups with the value n, in its shortest form
 pub record Shaped (n : ℕ) (bytes : List ℕ) : Type 0 where

@@ -4,7 +4,7 @@ use Rattle.leaf.specs.declared.bounds.Bounds.{Bounds}
 use Rattle.faults.specs.Faults.{Answer, found, refused}
 use Rattle.leaf.specs.Numbers.{has_bit}
 use Rattle.leaf.specs.Windows.{bound_at, bounds_at, value_at}
-use Rattle.leaf.proofs.Chains.{next_both, Ends, ends_found}
+use Rattle.leaf.specs.Laws.Chains.{next_both, Ends, ends_found}
 
 -- of a kind's bounds as written: each ends within the sheet, and what it stands for is a bound of the kind
 module _ {W V : Type 0} (value : W → Option V) (reading : Bool → List ℕ → ℕ → Answer W) (is_bound : Option V → Bool)

@@ -7,9 +7,9 @@ use Rattle.faults.specs.Faults.{Answer, Refused, found, refused, next, at_byte}
 use Rattle.leaf.specs.Encoding.{Written, Bytes, encode}
 use Rattle.leaf.specs.Fields.{Shape, byte, number, Fields, Stands, Complete, over, more, EndsEarly, BadNumber, Unfit, Reached, here, past}
 use Rattle.leaf.specs.Layouts.{Layout, spelled, spelled_leaf, is_of_field, bytes_of, LeafStands, OneAnswer, LeafJudged, LeafGrammar}
-use Rattle.leaf.proofs.Writing.{found_refused}
-use Rattle.leaf.proofs.Encodes.{one_to_one}
-use Rattle.leaf.proofs.Rows.{Runs, Says, whole, early, bad, unfit, same, says, answers}
+use Rattle.leaf.specs.Laws.Writing.{found_refused}
+use Rattle.leaf.specs.Laws.Encodes.{one_to_one}
+use Rattle.leaf.specs.Laws.Rows.{Runs, Says, whole, early, bad, unfit, same, says, answers}
 
 bytes_drop : (k : ℕ) (s : List ℕ) → Bytes s → Bytes (drop k s)
 bytes_drop zero s h = h

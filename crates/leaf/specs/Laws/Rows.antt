@@ -8,7 +8,7 @@ use Rattle.leaf.specs.Numbers.{number_at}
 use Rattle.leaf.specs.Reading.{byte_in}
 use Rattle.leaf.specs.Encoding.{Written}
 use Rattle.leaf.specs.Fields.{Shape, byte, number, Fields, Stands, Ends, Misspelt, shape_at, field_at, InOrder, Complete, over, more, Reached, here, past, EndsEarly, BadNumber, NumberDue, Unfit}
-use Rattle.leaf.proofs.Writing.{one_of, finds_it, cuts_it, bars_it, found_refused}
+use Rattle.leaf.specs.Laws.Writing.{one_of, finds_it, cuts_it, bars_it, found_refused}
 
 -- what is read of a shape, by what stands there
 pub shape_found : (h : Shape) (s : List ℕ) (at n size : ℕ) → Stands h (drop at s) n size → shape_at h s at ≡ found n (at + size)

@@ -2,7 +2,8 @@
 use Rattle.std.proofs.Common.{◌≡◌, ℕ, Bool, ℤ, Some, Option, nat_le, ap, arith}
 use Rattle.std.specs.Int.Signed.{le_z}
 use Rattle.std.specs.Ordering.{int_cmp, nat_cmp, partial_le}
-use Rattle.leaf.specs.Windows.{window_of}
+use Rattle.leaf.specs.declared.bounds.Bounds.{Bounds}
+use Rattle.leaf.specs.Windows.{hull_of, window_of}
 
 nat_le_is : (a b : ℕ) → partial_le (λ x y. Some (nat_cmp x y)) a b ≡ nat_le a b
 nat_le_is a b = grind arith
@@ -15,6 +16,9 @@ nat_order i a b = nat_le_is a b i
 
 pub int_order : ◌≡◌ {A = ℤ → ℤ → Bool} (partial_le (λ x y. Some (int_cmp x y))) le_z
 int_order i a b = int_le_is a b i
+
+pub int_hull : (a b : Bounds ℤ) → hull_of (partial_le (λ x y. Some (int_cmp x y))) a b ≡ hull_of le_z a b
+int_hull a b = ap (λ (le : ℤ → ℤ → Bool). hull_of le a b) int_order
 
 -- windows as written
 module _ {W : Type 0} where
