@@ -3,7 +3,7 @@
 
 ghost use Rattle.cases.specs.Cases.{answer_to, bytes_of, is_as_expected};
 ghost use Rattle.std.specs.Option.{option_map};
-ghost use Rattle.std.specs.Prelude.{◌≡◌, IfOk, vec_items};
+ghost use Rattle.std.specs.Prelude.{◌≡◌, IfOk, string_bytes, vec_items};
 
 mod told;
 
@@ -27,15 +27,13 @@ fn bytes_of(heap: Global, text: &[u8]) -> Result<Option<Vec<u8>>, AllocError>
 }
 
 // The answer to a sheet, as a case writes it.
-fn answer_to(heap: Global, sheet: &[u8]) -> io::Result<Vec<u8>>
-    ensures { IfOk result (λ v. vec_items v ≡ answer_to sheet.now) }
+fn answer_to(heap: Global, sheet: &[u8]) -> Result<String, AllocError>
+    ensures { IfOk result (λ s. string_bytes s ≡ answer_to sheet.now) }
 {
     let printed = print_sheet(heap, sheet)?;
     let told = Told(printed.answer);
     let text = Hex(&printed.text);
-    let mut answer = Vec::new(heap);
-    write!(answer, "{told} {text}")?;
-    Ok(answer)
+    format!(in heap; "{told} {text}")
 }
 
 // Sheets, each with the answer of a list to it.
@@ -48,7 +46,7 @@ impl Replay for SheetCases {
     ghost holds = { is_as_expected };
 
     // Whether the sheet that a case begins with has the answer that follows it.
-    fn holds(&self, case: &[u8]) -> io::Result<bool> {
+    fn holds(&self, case: &[u8]) -> Result<bool, AllocError> {
         let Some((sheet, expected)) = split_once(case, b' ') else {
             return Ok(false);
         };
@@ -56,7 +54,7 @@ impl Replay for SheetCases {
             return Ok(false);
         };
         let answer = answer_to(self.heap, &sheet)?;
-        Ok(answer.as_slice() == expected)
+        Ok(answer.as_bytes() == expected)
     }
 }
 

@@ -5,30 +5,22 @@ ghost use Rattle.std.specs.Prelude.{◌≡◌, ◌≤◌, length, IfOk, OnOk};
 
 use leaf::Leaf;
 use list::Leaves;
-use std::alloc::Global;
 use std::io;
 use std::io::Write;
-use texts::{Line, append_line};
+use texts::{Line, ROOM};
 
 // Writes line `number` of a kind.
-fn write_line<W: Write, L: Line>(
-    heap: Global,
-    out: &mut W,
-    kind: &str,
-    number: usize,
-    line: &L,
-) -> io::Result<()>
+fn write_line<W: Write, L: Line>(out: &mut W, kind: &str, number: usize, line: &L) -> io::Result<()>
     ensures { OnOk result (Appends (W.contents out.old) (W.contents out.new) (numbered_line kind.now L.Line.text number line.now)) }
 {
-    let mut text = Vec::new(heap);
-    append_line(&mut text, line)?;
+    let mut text = [0; ROOM];
+    let length = line.write_line(&mut text).unwrap();
     write!(out, "{kind} {number}: ")?;
-    out.write_all(&text)
+    out.write_all(&text[..length])
 }
 
 // Writes the lines of a list, numbered from 1, and answers how many they are.
 pub(crate) fn write_lines<W: Write, V: Copy, L: Leaf<V> + Line>(
-    heap: Global,
     out: &mut W,
     kind: &str,
     list: &mut Leaves<'_, V, L>,
@@ -42,7 +34,7 @@ pub(crate) fn write_lines<W: Write, V: Copy, L: Leaf<V> + Line>(
     // A line by its number, into one place: that is how the list hands its lines out.
     for n in 0..count {
         if list.line(n, &mut place) {
-            write_line(heap, out, kind, n + 1, &place)?;
+            write_line(out, kind, n + 1, &place)?;
         }
     }
     Ok(count)

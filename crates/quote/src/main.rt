@@ -30,8 +30,8 @@ fn quote<W: Write>(heap: Global, batch: &[u8], out: &mut W) -> io::Result<()>
     let mut amounts = Leaves::open(&mut amount_table);
     let mut days = Leaves::open(&mut day_table);
     let taken = take_batch(heap, batch, &mut amounts, &mut days)?;
-    let amount_lines = write_lines(heap, out, "amounts", &mut amounts)?;
-    let day_lines = write_lines(heap, out, "days", &mut days)?;
+    let amount_lines = write_lines(out, "amounts", &mut amounts)?;
+    let day_lines = write_lines(out, "days", &mut days)?;
     write_taken(out, &taken, amount_lines.saturating_add(day_lines))
 }
 

@@ -4,6 +4,7 @@ ghost use Rattle.std.specs.Io.KnownBytes.{Appends};
 ghost use Rattle.std.specs.Prelude.{◌≡◌, ℕ, ◌+◌, ◌-◌, ◌^◌, min, Bool, cond, count_by, List, IfOk, OnOk, ◌==◌};
 
 use notation::Lines;
+use std::alloc::AllocError;
 use std::io;
 use std::io::Write;
 
@@ -12,7 +13,7 @@ pub trait Replay {
     ghost holds: { List ℕ → Bool };
 
     /// Whether a case has the answer that it expects; an error where memory runs out.
-    fn holds(&self, case: &[u8]) -> io::Result<bool>
+    fn holds(&self, case: &[u8]) -> Result<bool, AllocError>
         ensures { IfOk result (λ b. b ≡ holds case.now) };
 }
 

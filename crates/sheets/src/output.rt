@@ -1,4 +1,4 @@
-ghost use Rattle.std.specs.Prelude.{◌≡◌, ◌≤◌, [], ◌∷◌, ◌++◌, length, take, IfOk, OnErr, OnOk};
+ghost use Rattle.std.specs.Prelude.{◌≡◌, ◌+◌, ◌<◌, ◌≤◌, [], ◌∷◌, ◌++◌, length, take, IfOk, OnErr, OnOk, vec_capacity, vec_len};
 ghost use Rattle.list.specs.Held.{Tells, stopped};
 ghost use Rattle.list.specs.Runs.{Promised};
 ghost use Rattle.list.specs.Runs.Call.{sheet as call-sheet};
@@ -42,6 +42,7 @@ fn take_sheet<V: Copy, L: Leaf<V>>(table: &mut [L], sheet: &[u8]) -> Taken
 fn append_stop(text: &mut Vec<u8>, stop: Option<Fault>) -> Result<(), AllocError>
     ensures ok { OnOk result (text.new.items ≡ text.old.items ++ stop_text (stopped stop)) }
     ensures err { OnErr result (text.new.items ≡ text.old.items) }
+    ensures full { OnErr result (vec_capacity text.old < vec_len text.old + length (stop_text (stopped stop))) }
 {
     match stop {
         None => Ok(()),

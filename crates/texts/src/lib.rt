@@ -8,4 +8,4 @@ mod refusals;
 
 pub use cursor::Cursor;
 pub use lines::{Line, append_line, append_lines};
-pub use put::{has_room, put_byte, put_bytes, put_decimal};
+pub use put::{ROOM, has_room, put_byte, put_bytes, put_decimal};

@@ -1,5 +1,5 @@
 ghost use Rattle.std.specs.Io.{StartsWith};
-ghost use Rattle.std.specs.Prelude.{◌≡◌, ℕ, ◌≤◌, List, ◌++◌, length, OnErr, OnOk};
+ghost use Rattle.std.specs.Prelude.{◌≡◌, ℕ, ◌+◌, ◌<◌, ◌≤◌, List, ◌++◌, length, OnErr, OnOk, vec_capacity, vec_len};
 ghost use Rattle.texts.specs.Cursors.{Put};
 ghost use Rattle.texts.specs.Text.{Texted, together};
 
@@ -38,6 +38,9 @@ pub trait Line {
 pub fn append_line<L: Line>(out: &mut Vec<u8>, line: &L) -> Result<(), AllocError>
     ensures ok { OnOk result (out.new.items ≡ out.old.items ++ L.Line.text line.now) }
     ensures err { OnErr result (out.new.items ≡ out.old.items) }
+    // It fails only where room was missing.
+    ensures full { OnErr result (vec_capacity out.old < vec_len out.old + length (L.Line.text line.now)) }
+    ensures capacity { vec_capacity out.old ≤ vec_capacity out.new }
 {
     let mut buf = [0; ROOM];
     let mut cursor = Cursor {
@@ -57,6 +60,7 @@ pub fn append_line<L: Line>(out: &mut Vec<u8>, line: &L) -> Result<(), AllocErro
 pub fn append_lines<L: Line>(out: &mut Vec<u8>, lines: &[L]) -> Result<(), AllocError>
     ensures ok { OnOk result (out.new.items ≡ out.old.items ++ together L.Line.text lines.now) }
     ensures err { OnErr result (StartsWith out.new.items out.old.items) }
+    ensures full { OnErr result (vec_capacity out.old < vec_len out.old + length (together L.Line.text lines.now)) }
 {
     for line in lines {
         append_line(out, line)?;

@@ -3,8 +3,8 @@ ghost use Rattle.texts.specs.Text.{Wrote};
 
 use itoa::Buffer;
 
-// The shortest buffer for a line.
-pub(crate) const ROOM: usize = 600;
+/// The bytes of the shortest buffer for a line.
+pub const ROOM: usize = 600;
 
 // Whether a buffer of that size is long enough for a line.
 pub fn has_room(size: usize) -> bool
