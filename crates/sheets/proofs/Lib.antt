@@ -2,4 +2,3 @@ pub mod Pieces
 pub mod Works
 pub mod Encoded
 pub mod GoingOn
-pub mod TooLong

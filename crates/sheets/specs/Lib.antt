@@ -2,3 +2,4 @@ pub mod Output
 pub mod Encoded
 pub mod Rest
 pub mod Worked
+pub mod Laws

@@ -1,7 +1,7 @@
 use Rattle.std.proofs.Common.{◌≡◌, ◌<◌, ◌≤◌, true, nat_lt, length, get_or, refl, ap, ◌∙◌, arith}
 use Rattle.std.proofs.lemmas.Bool.{lt-ltb}
 use Rattle.list.specs.Held.{held_of, lines_of}
-use Rattle.notation.proofs.Numbered.{nothing_yet}
+use Rattle.notation.specs.Laws.Numbered.{nothing_yet}
 use Rattle.quote.specs.Quotation.{lines_text, numbered_line}
 use Rattle.quote.proofs.Listing.{line_written, lines_written, read_lines}
 use Rattle.quote.proofs.lists.write_lines.Goals.{then-line+in_ok-write_line, else-line}
