@@ -1,6 +1,6 @@
 -- An outcome more in the counts.
 use Rattle.std.proofs.Common.{◌≡◌}
-use Rattle.notation.proofs.Reports.{Steps}
+use Rattle.notation.specs.Laws.Reports.{Steps}
 use Rattle.questions.specs.Outcomes.{Counts, Outcome, answered, counted, is_answer, is_other, is_refusal, malformed, refused}
 use Rattle.ask.specs.declared.wrong.Wrong.{Wrong}
 

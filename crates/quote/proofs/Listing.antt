@@ -5,7 +5,7 @@ use Rattle.leaf.specs.Kind.{Kind}
 use Rattle.list.specs.Held.{held_of, lines_of}
 use Rattle.list.specs.Runs.{reading}
 use Rattle.list.specs.declared.leaves.Leaves.{Leaves}
-use Rattle.notation.proofs.Numbered.{Writes, all_written, appends_none, one_written}
+use Rattle.notation.specs.Laws.Numbered.{Writes, all_written, appends_none, one_written}
 
 -- where nothing came since the last reading, the lines are what is held
 pub read_lines : {V L : Type 0} (k : Kind V L) (l : Leaves V L) → l.canonical ≡ true → lines_of k l ≡ held_of l

@@ -11,7 +11,7 @@ use Rattle.amounts.specs.Text.{line_text as amount_text}
 use Rattle.days.specs.declared.day_leaf.DayLeaf.{DayLeaf}
 use Rattle.days.specs.Days.{days}
 use Rattle.days.specs.Text.{line_text as day_text}
-use Rattle.notation.proofs.Numbered.{appends_both}
+use Rattle.notation.specs.Laws.Numbered.{appends_both}
 use Rattle.quote.specs.declared.batch.Taken.{Taken}
 use Rattle.quote.specs.Batch.{Line, sheets_of}
 use Rattle.quote.specs.Quotation.{lines_text, quotation_of, totals_text}

@@ -4,7 +4,7 @@ use Rattle.faults.specs.Faults.{Refused}
 use Rattle.list.specs.declared.leaves.Leaves.{Leaves}
 use Rattle.amounts.specs.declared.amount_leaf.AmountLeaf.{AmountLeaf}
 use Rattle.days.specs.declared.day_leaf.DayLeaf.{DayLeaf}
-use Rattle.notation.proofs.Counted.{Counts, all_counted, none_counted, one_counted}
+use Rattle.notation.specs.Laws.Counted.{Counts, all_counted, none_counted, one_counted}
 use Rattle.quote.specs.declared.batch.Taken.{Taken}
 use Rattle.quote.specs.Batch.{Line, malformed, blank, sheet, is_malformed, sheets_of}
 use Rattle.quote.specs.Quotation.{malformed_remark, refusal_remark, remarks_after}

@@ -1,4 +1,3 @@
 pub mod Pieces
 pub mod Works
 pub mod GoingOn
-pub mod TooLong

@@ -1,3 +1,4 @@
 pub mod Output
 pub mod Rest
 pub mod Worked
+pub mod Laws

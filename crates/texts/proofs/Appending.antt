@@ -2,7 +2,7 @@
 use Rattle.std.proofs.Common.{◌≡◌, ℕ, zero, suc, ◌+◌, ◌<◌, ◌≤◌, List, [], ◌∷◌, ◌++◌, length, get_or, take, drop, sym, ap, refl, ◌∙◌, zero-add, arith}
 use Rattle.std.proofs.lemmas.List.{append_assoc, append-nil, length-append, take_at, take_more}
 use Rattle.texts.specs.Text.{Wrote, over, together}
-use Rattle.texts.proofs.Writes.{fits}
+use Rattle.texts.specs.Laws.Writes.{fits}
 
 -- what was written at the front of a buffer with room stands there
 pub written_front : (t old new : List ℕ) (r : ℕ) → Wrote old 0 t new r → length t ≤ length old → take r new ≡ t

@@ -1,3 +1,4 @@
 pub mod Text
 pub mod Cursors
 pub mod Refusals
+pub mod Laws

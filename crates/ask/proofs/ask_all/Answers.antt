@@ -1,8 +1,8 @@
 use Rattle.std.proofs.Common.{◌≤◌, ◌<◌, ◌≡◌, ◌^◌, length, refl, ap, arith, map, rules}
 use Rattle.std.proofs.lemmas.Result.{on_ok_weaker}
 use Rattle.std.proofs.lemmas.List.{length-map}
-use Rattle.notation.proofs.NumberedLines.{few_lines, first_fits, left, next_fits, no_line_left, number}
-use Rattle.notation.proofs.Reports.{ends, reported, starts}
+use Rattle.notation.specs.Laws.NumberedLines.{few_lines, first_fits, left, next_fits, no_line_left, number}
+use Rattle.notation.specs.Laws.Reports.{ends, reported, starts}
 use Rattle.notation.specs.Text.{lines_of}
 use Rattle.questions.specs.Outcomes.{counted, counts, is_answer, is_other, is_refusal, said}
 use Rattle.ask.specs.Lines.{line_outcome}

@@ -1,6 +1,6 @@
 use Rattle.std.proofs.Common.{map}
-use Rattle.notation.proofs.NumberedLines.{Fits, left, number}
-use Rattle.notation.proofs.Reports.{Left}
+use Rattle.notation.specs.Laws.NumberedLines.{Fits, left, number}
+use Rattle.notation.specs.Laws.Reports.{Left}
 use Rattle.questions.specs.Outcomes.{is_answer, is_other, is_refusal}
 use Rattle.ask.specs.Lines.{line_outcome}
 use Rattle.ask.specs.Output.{line_text, outcomes_of}

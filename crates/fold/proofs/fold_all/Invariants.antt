@@ -1,6 +1,6 @@
 use Rattle.std.proofs.Common.{map}
-use Rattle.notation.proofs.NumberedLines.{Fits, left, number}
-use Rattle.notation.proofs.Reports.{Left}
+use Rattle.notation.specs.Laws.NumberedLines.{Fits, left, number}
+use Rattle.notation.specs.Laws.Reports.{Left}
 use Rattle.fold.specs.Outcomes.{is_fold, is_other, is_refusal, outcome_of}
 use Rattle.fold.specs.Output.{outcomes_of}
 use Rattle.fold.specs.Texts.{line_text}

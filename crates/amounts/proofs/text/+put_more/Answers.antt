@@ -3,7 +3,7 @@ use Rattle.std.proofs.lemmas.List.{length-append, take_rest}
 use Rattle.divisors.specs.declared.fraction.Fraction.{Fraction}
 use Rattle.divisors.specs.Fractions.{none}
 use Rattle.texts.specs.Cursors.{Put}
-use Rattle.texts.proofs.Writes.{put_none, put_then}
+use Rattle.texts.specs.Laws.Writes.{put_none, put_then}
 use Rattle.amounts.specs.Text.{fraction_text, more_text}
 use Rattle.amounts.proofs.Writes.{more_none, more_step}
 use Rattle.amounts.proofs.text.+put_more.Goals as goal

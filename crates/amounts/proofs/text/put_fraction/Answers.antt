@@ -1,4 +1,4 @@
-use Rattle.texts.proofs.Writes.{put_then}
+use Rattle.texts.specs.Laws.Writes.{put_then}
 use Rattle.amounts.proofs.Writes.{part_text}
 use Rattle.amounts.proofs.text.put_fraction.Goals as goal
 

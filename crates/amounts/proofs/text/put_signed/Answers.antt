@@ -1,7 +1,7 @@
 use Rattle.std.proofs.Common.{◌≡◌, pos, nat_abs, ◌<ℤ◌, decimal, subst, arith, rules}
 use Rattle.std.proofs.lemmas.Int.{ints, to_z-of_z}
 use Rattle.texts.specs.Cursors.{Put}
-use Rattle.texts.proofs.Writes.{put_then}
+use Rattle.texts.specs.Laws.Writes.{put_then}
 use Rattle.amounts.proofs.Writes.{signed_minus, signed_short}
 use Rattle.amounts.proofs.text.put_signed.Goals.{then-z-lt0, else-z-lt0}
 use Rattle.amounts.proofs.text.put_signed.Goals as goal

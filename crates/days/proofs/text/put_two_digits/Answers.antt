@@ -1,4 +1,4 @@
-use Rattle.texts.proofs.Writes.{put_then}
+use Rattle.texts.specs.Laws.Writes.{put_then}
 use Rattle.days.proofs.text.put_two_digits.Goals as goal
 
 pub returns : goal.returns

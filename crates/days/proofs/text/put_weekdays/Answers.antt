@@ -1,6 +1,6 @@
 use Rattle.std.proofs.Common.{◌≡◌, ℕ, sym, subst, add-one, arith}
 use Rattle.texts.specs.Cursors.{Put}
-use Rattle.texts.proofs.Writes.{put_none, put_then}
+use Rattle.texts.specs.Laws.Writes.{put_none, put_then}
 use Rattle.days.specs.Text.{weekdays_text}
 use Rattle.days.proofs.Texts.{weekdays_short}
 use Rattle.days.proofs.text.put_weekdays.Goals as goal

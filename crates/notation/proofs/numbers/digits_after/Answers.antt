@@ -2,7 +2,7 @@ use Rattle.std.proofs.Common.{List, ℕ, rules, subst}
 use Rattle.std.proofs.lemmas.Fn.{fronts, slice_gives}
 use Rattle.std.specs.Iterator.{AlwaysYields}
 use Rattle.notation.specs.Text.{with_digit}
-use Rattle.notation.proofs.Stepping.{stepped_by}
+use Rattle.notation.specs.Laws.Stepping.{stepped_by}
 use Rattle.notation.proofs.numbers.digits_after.Goals as goal
 
 pub returns : goal.returns

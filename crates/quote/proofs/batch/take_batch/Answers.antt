@@ -1,6 +1,6 @@
 use Rattle.std.proofs.Common.{◌≤◌, ◌<◌, ◌≡◌, ◌^◌, ℕ, List, ◌+◌, length, sym, subst, ap, arith, map, rules}
 use Rattle.std.proofs.lemmas.List.{length-map}
-use Rattle.notation.proofs.NumberedLines.{few_lines, first_fits, left, next_fits, no_line_left, number}
+use Rattle.notation.specs.Laws.NumberedLines.{few_lines, first_fits, left, next_fits, no_line_left, number}
 use Rattle.notation.specs.Text.{lines_of}
 use Rattle.quote.specs.Batch.{Line, batch_lines, bytes_in, line_with}
 use Rattle.quote.proofs.Turns.{Left, ends, starts, turn}

@@ -1,5 +1,5 @@
 use Rattle.std.proofs.Common.{map}
-use Rattle.notation.proofs.NumberedLines.{Fits, left, number}
+use Rattle.notation.specs.Laws.NumberedLines.{Fits, left, number}
 use Rattle.quote.specs.Batch.{batch_lines, bytes_in, line_with}
 use Rattle.quote.proofs.Turns.{Left}
 use Rattle.quote.proofs.batch.take_batch.Given as goal

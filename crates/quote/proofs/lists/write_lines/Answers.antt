@@ -1,6 +1,6 @@
 use Rattle.std.proofs.Common.{◌≡◌, ◌<◌, ◌≤◌, true, length, get_or, is_some, slice_get, unwrap_or, refl, ap, ◌∙◌, arith}
 use Rattle.list.specs.Held.{held_of, lines_of}
-use Rattle.notation.proofs.Numbered.{nothing_yet}
+use Rattle.notation.specs.Laws.Numbered.{nothing_yet}
 use Rattle.quote.specs.Quotation.{lines_text, numbered_line}
 use Rattle.quote.proofs.Listing.{is_there, line_written, one_at, lines_written, read_lines}
 use Rattle.quote.proofs.lists.write_lines.Goals.{then-line+in_ok-write_line, else-line}

@@ -1,6 +1,6 @@
 use Rattle.std.proofs.Common.{◌≡◌, ◌+◌, true, drop}
 use Rattle.list.specs.Held.{held_of, lines_of}
-use Rattle.notation.proofs.Numbered.{Writes}
+use Rattle.notation.specs.Laws.Numbered.{Writes}
 use Rattle.quote.specs.Quotation.{lines_text, numbered_line}
 use Rattle.quote.proofs.lists.write_lines.Given as goal
 

@@ -1,7 +1,7 @@
 use Rattle.std.proofs.Common.{◌≤◌, ◌<◌, ◌≡◌, ◌+◌, ◌^◌, ℕ, length, ap, ◌∙◌, arith, rules}
-use Rattle.notation.proofs.Counted.{all_counted, none_counted, one_counted}
-use Rattle.notation.proofs.Numbered.{all_written, nothing_yet, one_written}
-use Rattle.notation.proofs.NumberedLines.{few_lines, first_fits, left, next_fits, no_line_left, number}
+use Rattle.notation.specs.Laws.Counted.{all_counted, none_counted, one_counted}
+use Rattle.notation.specs.Laws.Numbered.{all_written, nothing_yet, one_written}
+use Rattle.notation.specs.Laws.NumberedLines.{few_lines, first_fits, left, next_fits, no_line_left, number}
 use Rattle.notation.specs.Numbered.{numbered}
 use Rattle.notation.specs.Text.{lines_of}
 use Rattle.replays.specs.Replays.{difference, differs, is_case, tally_text}

@@ -1,6 +1,6 @@
-use Rattle.notation.proofs.Counted.{Counts}
-use Rattle.notation.proofs.Numbered.{Writes}
-use Rattle.notation.proofs.NumberedLines.{Fits, left, number}
+use Rattle.notation.specs.Laws.Counted.{Counts}
+use Rattle.notation.specs.Laws.Numbered.{Writes}
+use Rattle.notation.specs.Laws.NumberedLines.{Fits, left, number}
 use Rattle.notation.specs.Numbered.{numbered}
 use Rattle.notation.specs.Text.{lines_of}
 use Rattle.replays.specs.Replays.{difference, differs, is_case}

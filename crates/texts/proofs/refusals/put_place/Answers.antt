@@ -1,4 +1,4 @@
-use Rattle.texts.proofs.Writes.{put_then}
+use Rattle.texts.specs.Laws.Writes.{put_then}
 use Rattle.texts.proofs.refusals.put_place.Goals as goal
 
 pub returns-in-Some-clause-put : goal.returns-in-Some-clause-put

@@ -2,7 +2,7 @@ use Rattle.std.proofs.Common.{◌≤◌, List, [], ◌∷◌, ◌++◌, length, 
 use Rattle.std.proofs.lemmas.List.{length-append}
 use Rattle.divisors.specs.declared.fraction.Fraction.{Fraction}
 use Rattle.texts.specs.Cursors.{Put}
-use Rattle.texts.proofs.Writes.{put_then}
+use Rattle.texts.specs.Laws.Writes.{put_then}
 use Rattle.amounts.specs.Leaves.{barred, required}
 use Rattle.amounts.specs.Text.{bound_text, line_text, list_text}
 use Rattle.amounts.proofs.text.AmountLeafLine.put.Goals as goal

@@ -1,6 +1,6 @@
 use Rattle.std.proofs.Common.{[], ◌∷◌, ◌++◌, arith}
 use Rattle.std.proofs.lemmas.List.{length-append}
-use Rattle.texts.proofs.Writes.{put_then}
+use Rattle.texts.specs.Laws.Writes.{put_then}
 use Rattle.days.specs.Text.{bound_text, line_text, weekdays_text}
 use Rattle.days.proofs.text.DayLeafLine.put.Goals as goal
 

@@ -2,7 +2,7 @@ use Rattle.std.proofs.Common.{ℕ, List, [], ◌∷◌, ◌++◌, length, codes,
 use Rattle.std.proofs.lemmas.List.{length-append}
 use Rattle.texts.specs.Cursors.{Put}
 use Rattle.texts.specs.Refusals.{place_text, refusal_text}
-use Rattle.texts.proofs.Writes.{put_then}
+use Rattle.texts.specs.Laws.Writes.{put_then}
 use Rattle.texts.proofs.refusals.FaultLine.put.Goals as goal
 
 pub returns : goal.returns

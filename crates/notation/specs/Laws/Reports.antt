@@ -2,8 +2,8 @@
 use Rattle.std.proofs.Common.{◌≡◌, ℕ, ◌+◌, ◌-◌, ◌≤◌, ◌^◌, min, Bool, cond, count_by, List, [], ◌∷◌, ◌++◌, length, map, Some, None, IfSome, IsSome, MatchOption, Option, sym, ap, ◌∙◌}
 use Rattle.std.specs.Io.KnownBytes.{Appends}
 use Rattle.notation.specs.Numbered.{numbered}
-use Rattle.notation.proofs.Counted.{Counts, all_counted, none_counted, one_counted}
-use Rattle.notation.proofs.Numbered.{Writes, all_written, nothing_yet, one_written}
+use Rattle.notation.specs.Laws.Counted.{Counts, all_counted, none_counted, one_counted}
+use Rattle.notation.specs.Laws.Numbered.{Writes, all_written, nothing_yet, one_written}
 
 -- a count goes on where b says so, as far as 64 bits hold it
 abbrev pub Steps : Bool → ℕ → ℕ → Type 0

@@ -1,0 +1,2 @@
+-- Sheets of which only the front matters.
+pub mod TooLong

@@ -1,0 +1,2 @@
+-- Texts written one after another.
+pub mod Writes
