@@ -2,5 +2,4 @@ pub mod Snaps
 pub mod Listing
 pub mod Writes
 pub mod Works
-pub mod Grammar
 pub mod Making

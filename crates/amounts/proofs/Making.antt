@@ -14,7 +14,7 @@ use Rattle.amounts.specs.declared.amount_leaf.AmountLeaf.{AmountLeaf}
 use Rattle.amounts.specs.Leaves.{leaf_of}
 use Rattle.amounts.specs.Making.{MakerJudged, after, amount_in, amount_tests, made_of, window_of}
 
-after_tests : {A : Type 0} (p q : Bool) (r : Result A Refused) → after (cond p (cond q None (Some 6)) (Some 5)) r ≡ cond p (cond q r (Err (unplaced 6))) (Err (unplaced 5))
+after_tests : {A : Type 0} (p q : Bool) (r : Result A Refused) → after (cond p (cond q None (Some (unplaced 6))) (Some (unplaced 5))) r ≡ cond p (cond q r (Err (unplaced 6))) (Err (unplaced 5))
 after_tests false q r = refl
 after_tests true false r = refl
 after_tests true true r = refl

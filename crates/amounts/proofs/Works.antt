@@ -6,7 +6,7 @@ use Rattle.divisors.specs.Shared.{rest_in, rest_of, shared_of}
 use Rattle.divisors.specs.Whole.{gcd_in, gcd_of, lcm_of}
 use Rattle.divisors.specs.Written.{barred_of, required_of}
 use Rattle.leaf.specs.Numbers.{number_at}
-use Rattle.amounts.specs.Reading.{amount, list}
+use Rattle.amounts.specs.Layout.{amount, list}
 use Rattle.amounts.specs.Values.{above, next_of}
 use Rattle.amounts.specs.Worked.{WorkedLeaves}
 

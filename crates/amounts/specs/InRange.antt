@@ -1,9 +1,7 @@
--- An amount as written is in range; divisors of which nothing is refused.
-use Rattle.std.specs.Prelude.{◌≡◌, ℕ, zero, suc, ◌^◌, Bool, true, false, cond, ℤ, pos, neg_ℤ, Some, None, Ok, Option, Result, ◌==◌, ◌≢◌, nat_le, nat_lt, refl}
+-- An amount as written is in range.
+use Rattle.std.specs.Prelude.{◌≡◌, ℕ, zero, suc, ◌^◌, Bool, true, false, cond, ℤ, pos, neg_ℤ, Some, None, ◌==◌, ◌≢◌, nat_le, nat_lt, refl}
 use Rattle.std.proofs.Common.{subst, arith}
 use Rattle.std.proofs.lemmas.Bool.{cond_both, eqb-false, leb-true, lt-ltb}
-use Rattle.faults.specs.Faults.{Refused}
-use Rattle.amounts.specs.Making.{after}
 use Rattle.amounts.specs.Values.{amount_of, is_amount}
 
 pub none_some : {A : Type 0} {B : Type 0} {x : A} → None ≡ Some x → B
@@ -22,8 +20,3 @@ amount_is true m z =
     (λ n.
     cond_both (nat_le m (2 ^ 63)) (Some (neg_ℤ (pos m))) None (λ o. o ≡ Some z → is_amount z ≡ true)
     (λ t e. subst (λ (x : ℤ). is_amount x ≡ true) (let k : neg_ℤ (pos m) ≡ z = cc in k) (below m (eqb-false m 0 n) t)) (λ _ e. none_some e))
-
--- nothing is refused of the divisors
-pub not_refused : (o : Option ℕ) → ◌≡◌ {A = Result (Unit {0}) Refused} (Ok tt) (after o (Ok tt)) → o ≡ None
-not_refused None e = refl
-not_refused (Some n) e = absurd (let z : ◌≡◌ {A = ℕ} 0 1 = cc in omega arith)

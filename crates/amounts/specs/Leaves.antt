@@ -1,18 +1,12 @@
 -- Amount leaves: a window with a rule.
-use Rattle.std.specs.Prelude.{◌-◌, Bool, List, ◌++◌, length, replicate, ℤ, Option, int_le}
+use Rattle.std.specs.Prelude.{Bool, List, ℤ, Option, int_le}
 use Rattle.divisors.specs.declared.fraction.Fraction.{Fraction}
-use Rattle.divisors.specs.declared.row.Row.{Row}
-use Rattle.divisors.specs.Fractions.{none}
-use Rattle.divisors.specs.Rows.{fractions}
+use Rattle.divisors.specs.Rows.{fractions, row_of}
 use Rattle.amounts.specs.Values.{is_amount}
 use Rattle.divisors.specs.Written.{barred_of, required_of}
 use Rattle.leaf.specs.Kind.{ext_le, from, upto}
 use Rattle.leaf.specs.Plans.{fits_if}
 use Rattle.amounts.specs.declared.amount_leaf.AmountLeaf.{AmountLeaf}
-
--- the row that holds a list, with its free places
-abbrev pub row_of : List Fraction → Row
-row_of fs = record { items = fs ++ replicate (6 - length fs) none; count = length fs }
 
 abbrev pub required : AmountLeaf → List Fraction
 required a = fractions a.required

@@ -1,8 +1,8 @@
 pub mod Values
 pub mod Rules
 pub mod Leaves
-pub mod Reading
 pub mod Making
+pub mod Layout
 pub mod Amounts
 pub mod Grammar
 pub mod Meaning
@@ -13,7 +13,5 @@ pub mod Makes
 pub mod Means
 pub mod Nexts
 pub mod RulesLemmas
-pub mod Rows
-pub mod Read
+pub mod Laws
 pub mod InRange
-pub mod Lengths

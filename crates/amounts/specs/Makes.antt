@@ -1,19 +1,20 @@
 -- The leaf of bounds and divisors as written: which one it is, that it is lawful, and what it means.
 use Rattle.std.specs.Prelude.{◌≡◌, true, ◌&&◌, List, ℤ, Some, None, Option}
+use Rattle.std.proofs.Common.{ap, ◌∙◌}
 use Rattle.std.proofs.lemmas.Bool.{and_from, and_parts}
 use Rattle.divisors.specs.declared.fraction.Fraction.{Fraction}
 use Rattle.divisors.specs.declared.row.Row.{Row}
 use Rattle.divisors.specs.Dividing.{thinned}
-use Rattle.divisors.specs.Rows.{fractions, is_folded, is_thinned, padded}
+use Rattle.divisors.specs.Lawful.{kept_laws}
+use Rattle.divisors.specs.Rows.{fractions, is_folded, is_thinned, padded, row_of}
 use Rattle.divisors.specs.Settled.{settled}
-use Rattle.divisors.specs.Written.{FoldOf, ThinOf, barred_of, required_of}
+use Rattle.divisors.specs.Written.{FoldOf, ThinOf}
 use Rattle.leaf.specs.Kind.{Lawful, is_value_window}
 use Rattle.amounts.specs.declared.amount_leaf.AmountLeaf.{AmountLeaf}
 use Rattle.amounts.specs.Amounts.{amounts}
 use Rattle.amounts.specs.Leaves.{is_bound, is_window, leaf_of}
 use Rattle.amounts.specs.Meaning.{Means}
 use Rattle.amounts.specs.Means.{leaf_means}
-use Rattle.amounts.specs.Rows.{row_of_lem}
 
 abbrev with_rows : Option ℤ → Option ℤ → Row → Row → AmountLeaf
 with_rows low high r s = record { bounds = record { minimum = low; maximum = high }; required = r; barred = s }
@@ -41,8 +42,8 @@ pub made_leaf :
       means : Means low high ws us (with_rows low high r s);
     }
 made_leaf low high ws us r s folds thins f t =
-    let x = row_of_lem r (required_of ws) (and_parts (padded r) (settled (fractions r)) f).0 folds.value in
-    let y = row_of_lem s (barred_of us) (and_parts (padded s) (thinned (fractions s)) t).0 thins.value in
+    let x = kept_laws.row r (and_parts (padded r) (settled (fractions r)) f).0 ∙ ap row_of folds.value in
+    let y = kept_laws.row s (and_parts (padded s) (thinned (fractions s)) t).0 ∙ ap row_of thins.value in
     record {
       value = λ i. with_rows low high (x i) (y i);
       sound = λ w. lawful_leaf low high r s w f t;

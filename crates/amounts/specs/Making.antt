@@ -1,10 +1,10 @@
 -- The maker of amount leaves, and its refusals in their order: divisors (5, 6), amounts (7), the window (8).
-use Rattle.std.specs.Prelude.{ℕ, ◌&&◌, List, ◌∷◌, length, nat_le, ℤ, Some, None, Ok, Err, Option, Result}
+use Rattle.std.specs.Prelude.{◌&&◌, List, ◌∷◌, length, nat_le, ℤ, Some, None, Ok, Err, Option, Result}
 use Rattle.std.specs.Int.Signed.{le_z}
 use Rattle.divisors.specs.declared.fraction.Fraction.{Fraction}
 use Rattle.divisors.specs.Written.{are_in_range, refusal_of_both}
 use Rattle.leaf.specs.declared.bounds.Bounds.{Bounds}
-use Rattle.faults.specs.Faults.{Refused, then, unplaced}
+use Rattle.faults.specs.Faults.{Refused, then}
 use Rattle.leaf.specs.Tests.{Test, Decided, window_tests}
 use Rattle.leaf.specs.Windows.{window_of as window_made, written}
 use Rattle.amounts.specs.declared.amount.WrittenAmount.{WrittenAmount}
@@ -17,9 +17,9 @@ abbrev pub amount_in : WrittenAmount → Option ℤ
 amount_in w = amount_of w.negative w.magnitude
 
 -- a refusal of the divisors comes before all else
-abbrev pub after : {A : Type 0} → Option ℕ → Result A Refused → Result A Refused
+abbrev pub after : {A : Type 0} → Option Refused → Result A Refused → Result A Refused
 after None r = r
-after (Some n) r = Err (unplaced n)
+after (Some f) r = Err f
 
 -- bounds that are amounts, minimum at most maximum
 abbrev pub window_of : Option WrittenAmount → Option WrittenAmount → Result (Bounds ℤ) Refused

@@ -1,10 +1,8 @@
 -- What an amount leaf admits, in the words of minimum, maximum, multipleOf and not, of what was written.
-use Rattle.std.specs.Prelude.{◌≡◌, ℕ, true, List, ℤ, ◌≤ℤ◌, Some, Decides, Option}
+use Rattle.std.specs.Prelude.{◌≡◌, true, List, ℤ, ◌≤ℤ◌, Some, Decides, Option}
 use Rattle.divisors.specs.declared.fraction.Fraction.{Fraction}
 use Rattle.divisors.specs.Written.{Admits, Spares}
-use Rattle.leaf.specs.Encoding.{Bytes}
-use Rattle.faults.specs.Faults.{found}
-use Rattle.leaf.specs.Layouts.{LeafStands}
+use Rattle.leaf.specs.Layouts.{written_leaf}
 use Rattle.leaf.specs.Kind.{admits}
 use Rattle.amounts.specs.declared.amount.WrittenAmount.{WrittenAmount}
 use Rattle.amounts.specs.declared.amount_leaf.AmountLeaf.{AmountLeaf}
@@ -12,7 +10,7 @@ use Rattle.amounts.specs.Values.{is_amount}
 use Rattle.amounts.specs.Amounts.{amounts}
 use Rattle.leaf.specs.Windows.{written}
 use Rattle.amounts.specs.Making.{amount_in}
-use Rattle.amounts.specs.Reading.{Written, amount_layout, leaf_at}
+use Rattle.amounts.specs.Layout.{Written, amount_layout}
 
 -- v is at least the minimum and at most the maximum where they are there, its division by each required divisor gives an
 -- integer (v * q is a whole multiple of p), and its division by no barred one does
@@ -30,8 +28,6 @@ Means low high ws us a = (v : ℤ) → is_amount v ≡ true → Decides (admits 
 abbrev pub value_of : Option WrittenAmount → Option ℤ
 value_of bound = written amount_in bound
 
--- what is read of a sheet stands there in the bytes of a leaf as written, and admits exactly what that means
-unfoldable pub ReadMeans : Type 0
-ReadMeans =
-    (s : List ℕ) (at : ℕ) (a : AmountLeaf) (e : ℕ) → Bytes s → leaf_at s at ≡ found a e →
-    (w : Written) × LeafStands amount_layout s at w e × Means w.low w.high w.required w.barred a
+-- a leaf as written admits exactly what its amounts and divisors mean
+unfoldable pub WrittenMeans : Type 0
+WrittenMeans = (w : Written) → amount_layout.fits w ≡ true → Means (value_of w.low) (value_of w.high) w.rest.0 w.rest.1 (written_leaf amount_layout w)

@@ -2,37 +2,27 @@
 use Rattle.std.specs.Prelude.{◌≡◌, ℕ, ◌*◌, ◌%◌, ◌^◌, ◌<◌, true, false, cond, not, ◌&&◌, List, [], ◌∷◌, ℤ, Some, None, Decides, Option, ◌==◌, nat_lt, unsigned_abs, refl}
 use Rattle.std.proofs.Common.{sym, ap, subst, ◌∙◌, ⊎_elim, mul-one, arith}
 use Rattle.std.proofs.Math.Nat.{mod-one}
-use Rattle.std.proofs.lemmas.Bool.{and_from, and_parts, both_ways, cases_Bool, cond_both, cond-true, eqb-true, false≢true, ltb-true, not_from_false, not-true, true≢false}
+use Rattle.std.proofs.lemmas.Bool.{and_from, and_parts, both_ways, cond_both, cond-true, eqb-true, false≢true, ltb-true, true≢false}
 use Rattle.divisors.specs.declared.fraction.Fraction.{Fraction}
-use Rattle.divisors.specs.Fractions.{MultipleOf, is_multiple}
-use Rattle.divisors.specs.Lists.{at_most, every, sole_of, some}
-use Rattle.divisors.specs.Settled.{are_reduced}
+use Rattle.divisors.specs.Fractions.{is_multiple}
+use Rattle.divisors.specs.Lawful.{order_laws, tests_mean}
+use Rattle.divisors.specs.Lists.{are_reduced, at_most, every, sole_of, some}
 use Rattle.divisors.specs.Written.{Admits, Spares}
-use Rattle.divisors.proofs.AtMost.{up_refl, up_total}
-use Rattle.divisors.proofs.Lawful.{multiples_mean, order_laws}
-use Rattle.divisors.proofs.Members.{all_in, every_in, in_all, in_every, in_some, some_in}
 use Rattle.amounts.specs.Rules.{admitted, both_at_most, step, step_of}
 
 -- the test says: a multiple of each of the first list, and of none of the second
 pub admitted_means : (xs ys : List Fraction) (v : ℤ) → Decides (admitted xs ys (unsigned_abs v)) (Admits xs v × Spares ys v)
 admitted_means xs ys v =
-    let n = unsigned_abs v in (
-      λ h.
-          let u = and_parts (every (is_multiple n) xs) (not (some (is_multiple n) ys)) h in (
-            in_all (λ f. MultipleOf f v) xs (λ x i. (multiples_mean x v).0 (every_in (is_multiple n) xs u.0 x i)),
-            in_all (λ f. MultipleOf f v → ⊥) ys
-                (λ y j m. both_ways (some (is_multiple n) ys) (not-true (some (is_multiple n) ys) u.1) (some_in (is_multiple n) ys y j ((multiples_mean y v).1 m))),
-          ),
-      λ m.
-          and_from (every (is_multiple n) xs) (not (some (is_multiple n) ys))
-          (in_every (is_multiple n) xs (λ x i. (multiples_mean x v).1 (all_in (λ f. MultipleOf f v) xs m.0 x i)))
-          (not_from_false (some (is_multiple n) ys)
-          (⊎_elim
-          (λ t.
-          let w = in_some (is_multiple n) ys t in
-          absurd (all_in (λ f. MultipleOf f v → ⊥) ys m.1 w.0 w.1 ((multiples_mean w.0 v).0 w.2)))
-          (λ f. f) (cases_Bool (some (is_multiple n) ys)))),
-    )
+    let n = unsigned_abs v in
+    let p = every (is_multiple n) xs in
+    let q = not (some (is_multiple n) ys) in
+    let a = tests_mean.admits xs v in
+    let b = tests_mean.spares ys v in
+    (λ h. let u = and_parts p q h in (a.0 u.0, b.0 u.1), λ m. and_from p q (a.1 m.0) (b.1 m.1))
+
+-- of two lists one is at most the other
+up_total : (xs ys : List Fraction) → at_most xs ys ≡ false → at_most ys xs ≡ true
+up_total xs ys h = ⊎_elim (λ t. absurd (both_ways (at_most xs ys) h t)) (λ t. t) (order_laws.total xs ys)
 
 step_low : (o : Option Fraction) → 0 < step_of o
 step_low None = omega arith
@@ -88,4 +78,4 @@ both_trans r s t u v w a b c d e f h i =
 
 pub both_refl : (r s t u : List Fraction) → r ≡ t → s ≡ u → both_at_most r s t u ≡ true
 both_refl r s t u d e =
-    both_from r s t u (subst (λ (xs : List Fraction). at_most r xs ≡ true) d (up_refl r)) (λ _. subst (λ (xs : List Fraction). at_most s xs ≡ true) e (up_refl s))
+    both_from r s t u (subst (λ (xs : List Fraction). at_most r xs ≡ true) d (order_laws.reflexive r)) (λ _. subst (λ (xs : List Fraction). at_most s xs ≡ true) e (order_laws.reflexive s))

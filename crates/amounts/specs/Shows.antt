@@ -5,12 +5,12 @@ use Rattle.std.specs.Int.Signed.{mag}
 use Rattle.std.proofs.lemmas.Int.{ints}
 use Rattle.std.proofs.lemmas.Bool.{and_from, and_parts, both_ways, cases_Bool, cond_both, eq-eqb, lt-ltb, ltb-true}
 use Rattle.divisors.specs.declared.fraction.Fraction.{Fraction}
-use Rattle.divisors.specs.Dividing.{bars_no_more, divide_all, thinned, thin as lacks_divided}
-use Rattle.divisors.specs.Lists.{ascends}
-use Rattle.divisors.specs.Rows.{is_folded, is_thinned, padded}
-use Rattle.divisors.specs.Settled.{are_more, are_reduced, joinless, settled, stripless}
-use Rattle.divisors.proofs.Lawful.{barred_laws, order_laws, required_laws}
-use Rattle.divisors.proofs.Padded.{row_is}
+use Rattle.divisors.specs.declared.row.Row.{Row}
+use Rattle.divisors.specs.Dividing.{bars_no_more, divide_all, thinned}
+use Rattle.divisors.specs.Lawful.{barred_laws, kept_laws, order_laws, required_laws}
+use Rattle.divisors.specs.Lists.{are_reduced}
+use Rattle.divisors.specs.Rows.{fractions, is_folded, is_thinned, padded, row_of}
+use Rattle.divisors.specs.Settled.{settled}
 use Rattle.leaf.specs.Kind.{Joins, Lawful, Laws, is_value_window, same_rule}
 use Rattle.leaf.specs.Laws.Hulls.{hull_window, joins_hull}
 use Rattle.amounts.specs.declared.amount_leaf.AmountLeaf.{AmountLeaf}
@@ -20,7 +20,7 @@ use Rattle.amounts.specs.Rules.{admitted, both_at_most, step}
 use Rattle.amounts.specs.Values.{incremented, is_amount, is_on_grid}
 use Rattle.amounts.specs.Makes.{lawful_leaf}
 use Rattle.amounts.specs.Nexts.{le_of, lt_of, next_grid, next_least, next_none, of_le, of_lt}
-use Rattle.amounts.specs.Read.{well_read}
+use Rattle.amounts.specs.Laws.Layout.{blank_lawful, layout_laws, written_lawful}
 use Rattle.amounts.specs.RulesLemmas.{admitted_means, admitted_step, both_parts, both_refl, both_total, both_trans, step_pos}
 
 le_total : (a b : ℤ) → int_le a b ≡ false → int_le b a ≡ true
@@ -81,8 +81,8 @@ parts a h =
       thin = t.1;
       settles = s;
       thins = b;
-      req = (and_parts (are_reduced (required a)) (are_more (required a) && (ascends (required a) && (joinless (required a) && stripless (required a)))) s).0;
-      bar = (and_parts (are_reduced (barred a)) (ascends (barred a) && lacks_divided (barred a)) b).0;
+      req = required_laws.reduced (required a) s;
+      bar = barred_laws.reduced (barred a) b;
     }
 
 -- tied rules are equal, and equal rules tie
@@ -100,11 +100,15 @@ equal_tie a b d e =
     and_from (both_at_most (required a) (barred a) (required b) (barred b)) (both_at_most (required b) (barred b) (required a) (barred a))
     (both_refl (required a) (barred a) (required b) (barred b) d e) (both_refl (required b) (barred b) (required a) (barred a) (sym d) (sym e))
 
+-- rows of equal lists are equal
+same_row : (r s : Row) → padded r ≡ true → padded s ≡ true → fractions r ≡ fractions s → r ≡ s
+same_row r s h i e = kept_laws.row r h ∙ (ap row_of e ∙ sym (kept_laws.row s i))
+
 tie_equal : (a b : AmountLeaf) → Parts a → Parts b → same_rule amounts a b ≡ true → a.bounds.minimum ≡ b.bounds.minimum → a.bounds.maximum ≡ b.bounds.maximum → a ≡ b
 tie_equal a b p q s d e =
     let t = tie a b p q s in
-    let r = row_is a.required b.required (and_parts (padded a.required) (settled (required a)) p.folded).0 (and_parts (padded b.required) (settled (required b)) q.folded).0 t.0 in
-    let w = row_is a.barred b.barred (and_parts (padded a.barred) (thinned (barred a)) p.thin).0 (and_parts (padded b.barred) (thinned (barred b)) q.thin).0 t.1 in
+    let r = same_row a.required b.required (and_parts (padded a.required) (settled (required a)) p.folded).0 (and_parts (padded b.required) (settled (required b)) q.folded).0 t.0 in
+    let w = same_row a.barred b.barred (and_parts (padded a.barred) (thinned (barred a)) p.thin).0 (and_parts (padded b.barred) (thinned (barred b)) q.thin).0 t.1 in
     λ k. record { bounds = record { minimum = d k; maximum = e k }; required = r k; barred = w k }
 
 covers_parts : (a b : AmountLeaf) → amounts.rule_covers a b ≡ true → (divide_all (required a) (required b) ≡ true) × (bars_no_more (barred a) (barred b) ≡ true)
@@ -185,10 +189,12 @@ amounts_laws = record {
   next_grid = λ a v w p q e. next_grid (step (required a)) v w (step_pos (required a)) q e;
   next_least = λ a v w u p q e g h. next_least (step (required a)) v w u (step_pos (required a)) q e g h;
   next_none = λ a v u p q e g. next_none (step (required a)) v u (step_pos (required a)) q e g;
+  blank_lawful = blank_lawful;
   joins = λ a b p q. joined a b p q;
   covers_refl = λ a b p q s. covers_refl a b (parts a p) (parts b q) s;
   covers_trans = λ a b c p q r h i. covers_trans a b c (parts a p) (parts c r) h i;
   covers_anti = λ a b p q h i. covers_anti a b (parts a p) (parts b q) h i;
   covers_admits = λ a b v p q h i. covers_admits a b v (parts a p) (parts b q) h i;
-  well_read = well_read;
+  layouts = λ b. layout_laws;
+  written_lawful = λ b. written_lawful;
 }

@@ -1,8 +1,8 @@
 ghost use Rattle.amounts.specs.Making.{amount_in};
-ghost use Rattle.amounts.specs.Reading.{amount, amount_table};
+ghost use Rattle.amounts.specs.Layout.{amount, amount_table};
 ghost use Rattle.amounts.specs.Values.{amount_of};
-ghost use Rattle.leaf.specs.Plans.{run};
-ghost use Rattle.std.specs.Prelude.{◌≡◌};
+ghost use Rattle.leaf.specs.Plans.{made_at};
+ghost use Rattle.std.specs.Prelude.{◌≡◌, true};
 
 use leaf::{Fault, Reader, Refusal, WrittenBound};
 
@@ -34,13 +34,19 @@ impl WrittenBound for WrittenAmount {
 
     ghost value_of = { amount_in };
 
-    ghost reading = { λ negative. run amount_table (amount negative) };
+    ghost signed = { true };
+
+    ghost bound_at = { λ negative. made_at amount_table (amount negative) };
+
+    fn is_signed() -> bool {
+        true
+    }
 
     fn value(self) -> Option<i64> {
         WrittenAmount::value(self)
     }
 
-    #[tactic(auto, unfolding(crate::specs::Reading::amount))]
+    #[tactic(auto, unfolding(crate::specs::Layout::amount))]
     fn read(reader: &mut Reader<'_>, negative: bool) -> Result<Option<i64>, Fault> {
         let start = reader.at();
         let magnitude = reader.number()?;

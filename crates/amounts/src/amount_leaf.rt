@@ -1,16 +1,16 @@
 ghost use Rattle.amounts.specs.Amounts.{amounts};
 ghost use Rattle.amounts.specs.Leaves.{leaf_of};
-ghost use Rattle.amounts.specs.Making.{MakerJudged, after, made_of};
+ghost use Rattle.amounts.specs.Making.{MakerJudged, made_of};
 ghost use Rattle.amounts.specs.Meaning.{Means, value_of};
 ghost use Rattle.amounts.specs.Worked.{WorkedLeaves};
-ghost use Rattle.divisors.specs.Written.{refusal_of, refusal_of_both};
+ghost use Rattle.divisors.specs.Written.{refusal_of};
 ghost use Rattle.faults.specs.Faults.{told};
 ghost use Rattle.leaf.specs.Kind.{Lawful, is_value_window};
-ghost use Rattle.std.specs.Prelude.{◌≡◌, true, IfOk, None, Ok, OnOk};
+ghost use Rattle.std.specs.Prelude.{◌≡◌, true, IfOk, None, OnOk};
 
 use crate::amount::WrittenAmount;
 use divisors::{Folded, Fraction, Row, Thinned, check};
-use leaf::{Bounds, Fault, Refusal};
+use leaf::{Bounds, Fault};
 
 // A window of amounts with required and barred divisors, folded and thinned.
 #[derive(Clone, Copy)]
@@ -18,18 +18,6 @@ pub struct AmountLeaf {
     pub(crate) bounds: Bounds<i64>,
     pub(crate) required: Row,
     pub(crate) barred: Row,
-}
-
-// What is refused of the divisors.
-fn check_divisors(required: &[Fraction], barred: &[Fraction]) -> Result<(), Fault>
-    ensures { told result ≡ after (refusal_of_both required.now barred.now) (Ok tt) }
-{
-    check(required, barred).map_err(|refusal| {
-        Fault::unplaced(match refusal {
-            divisors::Refusal::OutOfRange => Refusal::BadPart,
-            divisors::Refusal::TooMany => Refusal::ManyDivisors,
-        })
-    })
 }
 
 // The leaf of these bounds and of divisors as written, which were looked at before.
@@ -63,7 +51,7 @@ impl AmountLeaf {
         ensures judged { MakerJudged }
         ensures worked { OnOk result (WorkedLeaves) }
     {
-        check_divisors(required, barred)?;
+        check(required, barred)?;
         let bounds = Bounds::of_written(minimum, maximum)?;
         Ok(leaf_of(bounds, required, barred))
     }

@@ -1,8 +1,8 @@
 ghost use Rattle.amounts.specs.Amounts.{amounts};
-ghost use Rattle.amounts.specs.Grammar.{AmountsStand};
-ghost use Rattle.amounts.specs.Meaning.{ReadMeans};
-ghost use Rattle.faults.specs.Faults.{Fills};
-ghost use Rattle.std.specs.Prelude.{◌≡◌};
+ghost use Rattle.amounts.specs.Grammar.{AmountRefusals};
+ghost use Rattle.amounts.specs.Meaning.{WrittenMeans};
+ghost use Rattle.leaf.specs.Kind.{leaf_at};
+ghost use Rattle.leaf.specs.Reading.{ReadsInto, at_of, sheet_of};
 ghost use Rattle.amounts.specs.Shows.{amounts_laws};
 
 use crate::amount_leaf::{AmountLeaf, leaf_of};
@@ -73,15 +73,13 @@ impl Leaf<i64> for AmountLeaf {
         b == KIND
     }
 
-    // In each kind, since each says besides what its leaf means.
-    #[tactic(auto, using(crate::specs::Read::leaf_from_end, crate::proofs::Grammar::read_means, crate::proofs::Grammar::amounts_stand))]
-    fn read(sheet: &[u8], start: usize, place: &mut AmountLeaf) -> Result<usize, Fault>
-        ensures reads { Fills (amounts.reading sheet.now start) place.old place.new result }
-        ensures grammar { AmountsStand }
-        ensures means { ReadMeans }
+    #[tactic(auto, using(crate::specs::Laws::Layout::written_means, crate::specs::Laws::Layout::refusals))]
+    fn read_fields(reader: &mut Reader<'_>, place: &mut AmountLeaf) -> Result<(), Fault>
+        ensures reads { ReadsInto (leaf_at amounts) reader.old reader.new place.old place.new result }
+        ensures means { WrittenMeans }
+        ensures refusals { AmountRefusals (sheet_of reader.old) (at_of reader.old) }
     {
-        let mut reader = Reader::new(sheet, start);
-        *place = read_leaf(&mut reader)?;
-        Ok(reader.at())
+        *place = read_leaf(reader)?;
+        Ok(())
     }
 }

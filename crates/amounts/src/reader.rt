@@ -1,54 +1,21 @@
-ghost use Rattle.amounts.specs.Reading.{amount, amount_layout, amount_table, are_flags, both_lists, divisor, flags, list, lists, part};
+ghost use Rattle.amounts.specs.Layout.{amount_layout, amount_table, both_lists, divisor, list, lists, part};
 ghost use Rattle.divisors.specs.Rows.{fractions};
-ghost use Rattle.leaf.specs.Layouts.{reading};
-ghost use Rattle.leaf.specs.Plans.{field, head, run};
+ghost use Rattle.leaf.specs.Layouts.{leaf_under};
+ghost use Rattle.leaf.specs.Plans.{field, made_at};
 ghost use Rattle.leaf.specs.Reading.{Reads, ReadsAs};
-ghost use Rattle.std.specs.Prelude.{◌≡◌};
 
 use crate::amount::WrittenAmount;
 use crate::amount_leaf::{AmountLeaf, leaf_of};
 use crate::grid::LARGEST;
 use divisors::{Fraction, Row};
-use leaf::{Bounds, Fault, Reader, Refusal, has_flag};
+use leaf::{Bounds, Fault, Reader, Refusal};
 
 // The most divisors of a list as written.
 const PLACES: u64 = 6;
 
-// The flags up to which a byte may be one.
-const FLAGS: u8 = 16;
-
-// Whether a byte is the flags of an amount leaf: no unknown bit, no sign without its bound.
-fn are_flags(flags: u8) -> bool
-    ensures { result ≡ are_flags flags }
-{
-    flags < FLAGS
-        && (has_flag(flags, 0) || !has_flag(flags, 2))
-        && (has_flag(flags, 1) || !has_flag(flags, 3))
-}
-
-// The flags byte: each kind has its own test of it.
-fn read_flags(reader: &mut Reader<'_>) -> Result<u8, Fault>
-    ensures { Reads (run amount_table (field flags)) reader.old reader.new result }
-{
-    let start = reader.at();
-    let flags = reader.byte()?;
-    if !are_flags(flags) {
-        return Err(Fault::at(Refusal::UnknownByte, start));
-    }
-    Ok(flags)
-}
-
-// The flags and the bounds.
-fn read_head(reader: &mut Reader<'_>) -> Result<Bounds<i64>, Fault>
-    ensures { Reads (run amount_table (head flags amount)) reader.old reader.new result }
-{
-    let flags = read_flags(reader)?;
-    Bounds::read::<WrittenAmount>(reader, flags)
-}
-
 // A numerator or denominator, from 1 to 2^63 - 1.
 fn read_part(reader: &mut Reader<'_>) -> Result<u64, Fault>
-    ensures { Reads (run amount_table (field part)) reader.old reader.new result }
+    ensures { Reads (made_at amount_table (field part)) reader.old reader.new result }
 {
     let start = reader.at();
     let n = reader.number()?;
@@ -59,7 +26,7 @@ fn read_part(reader: &mut Reader<'_>) -> Result<u64, Fault>
 }
 
 fn read_fraction(reader: &mut Reader<'_>) -> Result<Fraction, Fault>
-    ensures { Reads (run amount_table divisor) reader.old reader.new result }
+    ensures { Reads (made_at amount_table divisor) reader.old reader.new result }
 {
     let p = read_part(reader)?;
     let q = read_part(reader)?;
@@ -67,9 +34,9 @@ fn read_fraction(reader: &mut Reader<'_>) -> Result<Fraction, Fault>
 }
 
 // A count and as many divisors.
-#[tactic(auto, unfolding(crate::specs::Reading::list))]
+#[tactic(auto, unfolding(crate::specs::Layout::list))]
 fn read_list(reader: &mut Reader<'_>) -> Result<Row, Fault>
-    ensures { ReadsAs fractions (run amount_table list) reader.old reader.new result }
+    ensures { ReadsAs fractions (made_at amount_table list) reader.old reader.new result }
 {
     let start = reader.at();
     let count = reader.number()?;
@@ -81,14 +48,14 @@ fn read_list(reader: &mut Reader<'_>) -> Result<Row, Fault>
     // No more than six come, so none is refused here.
     for _ in 0..count {
         let f = read_fraction(reader)?;
-        row.push(f).map_err(|_| many)?;
+        row.push(f)?;
     }
     Ok(row)
 }
 
 // The required divisors, then the barred ones.
 fn read_lists(reader: &mut Reader<'_>) -> Result<(Row, Row), Fault>
-    ensures { ReadsAs both_lists (run amount_table lists) reader.old reader.new result }
+    ensures { ReadsAs both_lists (made_at amount_table lists) reader.old reader.new result }
 {
     let required = read_list(reader)?;
     let barred = read_list(reader)?;
@@ -97,10 +64,10 @@ fn read_lists(reader: &mut Reader<'_>) -> Result<(Row, Row), Fault>
 
 // The leaf whose flags stand here.
 pub(crate) fn read_leaf(reader: &mut Reader<'_>) -> Result<AmountLeaf, Fault>
-    ensures { Reads (reading amount_layout) reader.old reader.new result }
+    ensures { Reads (leaf_under amount_layout) reader.old reader.new result }
 {
     let start = reader.at();
-    let bounds = read_head(reader)?;
+    let bounds = Bounds::read::<WrittenAmount>(reader)?;
     let (required, barred) = read_lists(reader)?;
     if !bounds.is_window() {
         return Err(Fault::at(Refusal::MinAboveMax, start));

@@ -6,7 +6,7 @@ use Rattle.leaf.specs.Kind.Ext.{value}
 use Rattle.leaf.specs.Kind.{ext_le, from, upto}
 use Rattle.days.specs.Calendar.{is_day_number, weekday}
 use Rattle.days.specs.Leaves.{leaf_of}
-use Rattle.days.specs.Meaning.{Means}
+use Rattle.days.specs.Meaning.{Means, WrittenMeans, value_of}
 use Rattle.days.specs.Weekdays.{is_on_grid}
 
 -- what a minimum and a maximum ask of a day
@@ -39,3 +39,7 @@ leaf_means low high set d =
           and_from from_low (to_high && (day && held)) ((low_of low d).1 w.minimum)
           (and_from to_high (day && held) ((high_of high d).1 w.maximum) (and_from day held w.day w.weekday)),
     )
+
+pub written_means : WrittenMeans
+unfolding WrittenMeans
+written_means w = leaf_means (value_of w.low) (value_of w.high) w.rest

@@ -4,8 +4,8 @@ use Rattle.leaf.specs.Kind.{Kind}
 use Rattle.days.specs.declared.day_leaf.DayLeaf.{DayLeaf}
 use Rattle.days.specs.Calendar.{is_day_number}
 use Rattle.leaf.specs.Windows.{hull_of}
-use Rattle.days.specs.Leaves.{is_bound, is_window}
-use Rattle.days.specs.Reading.{leaf_at}
+use Rattle.days.specs.Leaves.{is_bound, is_window, leaf_of}
+use Rattle.days.specs.Layout.{Made, Role, Written, day_layout}
 use Rattle.days.specs.Weekdays.{holds, is_set, next_day, is_on_grid}
 
 -- bounds that are days, minimum at most maximum, a set of weekdays
@@ -26,7 +26,11 @@ days = record {
   rule_admits = λ a v. is_on_grid a.weekdays v;
   next_on_grid = λ a v. next_day a.weekdays v;
   rule_covers = λ a b. holds a.weekdays b.weekdays;
+  blank = leaf_of None None 127;
   join = λ a b. record { bounds = hull_of nat_le a.bounds b.bounds; weekdays = a.weekdays };
   kind_byte = λ b. (b == 68);
-  reading = leaf_at;
+  Role = Role;
+  Written = Written;
+  Made = Made;
+  layout = λ b. day_layout;
 }

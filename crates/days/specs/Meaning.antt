@@ -1,8 +1,6 @@
 -- What a day leaf admits, in the words of the dates and weekdays that were written.
-use Rattle.std.specs.Prelude.{◌≡◌, ℕ, ◌≤◌, true, List, Some, Decides, Option}
-use Rattle.leaf.specs.Encoding.{Bytes}
-use Rattle.faults.specs.Faults.{found}
-use Rattle.leaf.specs.Layouts.{LeafStands}
+use Rattle.std.specs.Prelude.{◌≡◌, ℕ, ◌≤◌, true, Some, Decides, Option}
+use Rattle.leaf.specs.Layouts.{written_leaf}
 use Rattle.leaf.specs.Numbers.{has_bit}
 use Rattle.leaf.specs.Kind.{admits}
 use Rattle.days.specs.declared.calendar.Date.{Date}
@@ -11,7 +9,7 @@ use Rattle.days.specs.Calendar.{is_day_number, weekday}
 use Rattle.days.specs.Days.{days}
 use Rattle.leaf.specs.Windows.{written}
 use Rattle.days.specs.Making.{numbered}
-use Rattle.days.specs.Reading.{Written, day_layout, leaf_at}
+use Rattle.days.specs.Layout.{Written, day_layout}
 
 -- d is a day, no earlier than the minimum and no later than the maximum where they are there, and its weekday is in the set
 pub record Meant (low high : Option ℕ) (set d : ℕ) : Type 0 where
@@ -28,8 +26,6 @@ Means low high set a = (d : ℕ) → Decides (admits days a d) (Meant low high s
 abbrev pub value_of : Option Date → Option ℕ
 value_of bound = written numbered bound
 
--- what is read of a sheet stands there in the bytes of a leaf as written, and admits exactly what that means
-unfoldable pub ReadMeans : Type 0
-ReadMeans =
-    (s : List ℕ) (at : ℕ) (a : DayLeaf) (e : ℕ) → Bytes s → leaf_at s at ≡ found a e →
-    (w : Written) × LeafStands day_layout s at w e × Means (value_of w.low) (value_of w.high) w.weekdays a
+-- a leaf as written admits exactly what its dates and weekdays mean
+unfoldable pub WrittenMeans : Type 0
+WrittenMeans = (w : Written) → Means (value_of w.low) (value_of w.high) w.rest (written_leaf day_layout w)

@@ -12,7 +12,7 @@ use Rattle.days.specs.Days.{days}
 use Rattle.days.specs.Grid.{absent, grid_day, next_grid, next_least, next_none}
 use Rattle.days.specs.Sets.{holds_self, holds_trans, holds_anti, holds_has}
 use Rattle.days.specs.Lawful.{lawful_parts, same_window, window_lawful}
-use Rattle.days.specs.Read.{well_read}
+use Rattle.days.specs.Laws.Layout.{layout_laws, written_lawful}
 
 total : (a b : ℕ) → nat_le a b ≡ false → nat_le b a ≡ true
 total a b h = le-leb b a (omega (arith, leb-false a b h))
@@ -69,10 +69,12 @@ days_laws = record {
   next_grid = λ a v w p q e. let n = next_grid a.weekdays v w e in (n.0, lt-leb w v n.1);
   next_least = λ a v w u p q e g h. le-leb w u (next_least a.weekdays v w u e g (leb-false u v h));
   next_none = λ a v u p q e g. le-leb u v (next_none a.weekdays v u e g);
+  blank_lawful = refl;
   joins = λ a b p q. joined a b p q;
   covers_refl = λ a b p q s. ap (λ w. holds a.weekdays w) (sym (one_rule a b s)) ∙ holds_self a.weekdays;
   covers_trans = λ a b c p q r h i. holds_trans a.weekdays b.weekdays c.weekdays h i;
   covers_anti = λ a b p q h i. tied a b (holds_anti a.weekdays b.weekdays h i);
   covers_admits = λ a b v p q h g. grid_holds a.weekdays b.weekdays v h g;
-  well_read = well_read;
+  layouts = λ b. layout_laws;
+  written_lawful = λ b. written_lawful;
 }

@@ -1,8 +1,8 @@
 ghost use Rattle.days.specs.Days.{days};
-ghost use Rattle.days.specs.Grammar.{DaysStand};
-ghost use Rattle.days.specs.Meaning.{ReadMeans};
-ghost use Rattle.faults.specs.Faults.{Fills};
-ghost use Rattle.std.specs.Prelude.{◌≡◌};
+ghost use Rattle.days.specs.Grammar.{DayRefusals};
+ghost use Rattle.days.specs.Meaning.{WrittenMeans};
+ghost use Rattle.leaf.specs.Kind.{leaf_at};
+ghost use Rattle.leaf.specs.Reading.{ReadsInto, at_of, sheet_of};
 ghost use Rattle.days.specs.Shows.{days_laws};
 
 use crate::calendar::LAST_DAY;
@@ -74,16 +74,14 @@ impl Leaf<u32> for DayLeaf {
         b == KIND
     }
 
-    // In each kind, since each says besides what its leaf means.
-    #[tactic(auto, using(crate::specs::Read::leaf_from_end, crate::proofs::Grammar::read_means, crate::proofs::Grammar::days_stand))]
-    fn read(sheet: &[u8], start: usize, place: &mut DayLeaf) -> Result<usize, Fault>
-        ensures reads { Fills (days.reading sheet.now start) place.old place.new result }
-        ensures grammar { DaysStand }
-        ensures means { ReadMeans }
+    #[tactic(auto, using(crate::proofs::Means::written_means, crate::specs::Laws::Layout::refusals))]
+    fn read_fields(reader: &mut Reader<'_>, place: &mut DayLeaf) -> Result<(), Fault>
+        ensures reads { ReadsInto (leaf_at days) reader.old reader.new place.old place.new result }
+        ensures means { WrittenMeans }
+        ensures refusals { DayRefusals (sheet_of reader.old) (at_of reader.old) }
     {
-        let mut reader = Reader::new(sheet, start);
-        *place = read_leaf(&mut reader)?;
-        Ok(reader.at())
+        *place = read_leaf(reader)?;
+        Ok(())
     }
 
     ghost lawfully = { days_laws };

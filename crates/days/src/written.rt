@@ -1,6 +1,7 @@
 ghost use Rattle.days.specs.Making.{numbered};
-ghost use Rattle.days.specs.Reading.{date, day_table};
-ghost use Rattle.leaf.specs.Plans.{run};
+ghost use Rattle.days.specs.Layout.{date, day_table};
+ghost use Rattle.leaf.specs.Plans.{made_at};
+ghost use Rattle.std.specs.Prelude.{false};
 
 use crate::calendar::{Date, day_number};
 use leaf::{Fault, Reader, Refusal, WrittenBound};
@@ -11,7 +12,13 @@ impl WrittenBound for Date {
 
     ghost value_of = { numbered };
 
-    ghost reading = { λ negative. run day_table (date negative) };
+    ghost signed = { false };
+
+    ghost bound_at = { λ negative. made_at day_table (date negative) };
+
+    fn is_signed() -> bool {
+        false
+    }
 
     fn value(self) -> Option<u32> {
         day_number(self.year, self.month, self.day)

@@ -1,11 +1,11 @@
 -- A padded row is its fractions.
 use Rattle.std.proofs.Common.{◌≡◌, ℕ, ◌+◌, ◌<◌, ◌≤◌, Bool, true, false, ◌&&◌, eqb, leb, List, [], ◌∷◌, ◌++◌, length, take, drop, set, Decides, sym, refl, ap, ◌∙◌, subst, ⊎_elim, arith, length-append, length-drop}
-use Rattle.std.proofs.lemmas.List.{drop_at, length-set, length-take-le, take-append-drop}
+use Rattle.std.proofs.lemmas.List.{drop_at, length-set, take-append-drop}
 use Rattle.std.proofs.lemmas.List.Folds.{list_all-append}
 use Rattle.std.proofs.lemmas.Bool.Decides.{Decides-and, Decides-at, Decides-eqb, Decides-like}
 use Rattle.std.proofs.lemmas.Slice.Eq.{slice_eq-Decides}
 use Rattle.std.specs.Cmp.Lexicographic.{pointwise}
-use Rattle.std.proofs.lemmas.Bool.{and_from, and_parts, both_ways, cases_Bool, eq-eqb, eqb-true, le-leb, leb-true}
+use Rattle.std.proofs.lemmas.Bool.{and_from, and_parts, both_ways, cases_Bool, eq-eqb, eqb-true, le-leb}
 use Rattle.divisors.specs.declared.fraction.Fraction.{Fraction}
 use Rattle.divisors.specs.declared.row.Row.{Row}
 use Rattle.divisors.specs.Dividing.{thinned}
@@ -14,41 +14,11 @@ use Rattle.divisors.specs.Lists.{every}
 use Rattle.divisors.specs.Rows.{fractions, is_folded, is_thinned, padded}
 use Rattle.divisors.specs.Settled.{settled}
 use Rattle.divisors.specs.Written.{FoldOf, ThinOf, are_in_range}
-use Rattle.divisors.proofs.Again.{barred_same, reduced_in_range, required_same}
-use Rattle.divisors.proofs.Fills.{blank_more}
-use Rattle.divisors.proofs.Settles.{settled_parts}
-use Rattle.divisors.proofs.Thins.{thinned_parts}
-use Rattle.divisors.proofs.Tidies.{same_eq}
-
--- two rows of nothing, equally long
-blank : (xs ys : List Fraction) → every (λ f. same f none) xs ≡ true → every (λ f. same f none) ys ≡ true → length xs ≡ length ys → xs ≡ ys
-blank [] [] h i e = refl
-blank [] (y ∷ ys) h i e = absurd (omega arith)
-blank (x ∷ xs) [] h i e = absurd (omega arith)
-blank (x ∷ xs) (y ∷ ys) h i e =
-    let u = and_parts (same x none) (every (λ f. same f none) xs) h in
-    let w = and_parts (same y none) (every (λ f. same f none) ys) i in
-    let p : x ≡ y = same_eq x none u.0 ∙ sym (same_eq y none w.0) in
-    let q = blank xs ys u.1 w.1 (omega arith) in
-    λ k. p k ∷ q k
-
-pub row_is : (r s : Row) → padded r ≡ true → padded s ≡ true → fractions r ≡ fractions s → r ≡ s
-row_is r s h i e =
-    let a = and_parts (leb r.count 6) (eqb (length r.items) 6 && every (λ f. same f none) (drop r.count r.items)) h in
-    let b = and_parts (eqb (length r.items) 6) (every (λ f. same f none) (drop r.count r.items)) a.1 in
-    let c = and_parts (leb s.count 6) (eqb (length s.items) 6 && every (λ f. same f none) (drop s.count s.items)) i in
-    let d = and_parts (eqb (length s.items) 6) (every (λ f. same f none) (drop s.count s.items)) c.1 in
-    let rn : r.count ≤ 6 = leb-true r.count 6 a.0 in
-    let sn : s.count ≤ 6 = leb-true s.count 6 c.0 in
-    let rl : length r.items ≡ 6 = eqb-true (length r.items) 6 b.0 in
-    let sl : length s.items ≡ 6 = eqb-true (length s.items) 6 d.0 in
-    let n : r.count ≡ s.count = sym (length-take-le r.count r.items (omega arith)) ∙ ap length e ∙ length-take-le s.count s.items (omega arith) in
-    let rest : drop r.count r.items ≡ drop s.count s.items =
-    blank (drop r.count r.items) (drop s.count s.items) b.1 d.1 (omega (arith, length-drop r.count r.items, length-drop s.count s.items)) in
-    let whole : r.items ≡ s.items =
-    sym (take-append-drop r.count r.items) ∙ ap (λ (xs : List Fraction). xs ++ drop r.count r.items) e ∙
-    ap (λ (xs : List Fraction). fractions s ++ xs) rest ∙ take-append-drop s.count s.items in
-    λ k. record { items = whole k; count = n k }
+use Rattle.divisors.specs.Lemmas.Again.{barred_same, reduced_in_range, required_same}
+use Rattle.divisors.specs.Lemmas.Fills.{blank_more}
+use Rattle.divisors.specs.Lemmas.Settles.{settled_parts}
+use Rattle.divisors.specs.Lemmas.Thins.{thinned_parts}
+use Rattle.divisors.specs.Lemmas.Rows.{row_is}
 
 -- tests of equivalent facts are equal
 same_test : (a b : Bool) → (a ≡ true → b ≡ true) → (b ≡ true → a ≡ true) → a ≡ b

@@ -7,7 +7,7 @@ use Rattle.divisors.specs.Folding.{FoldsTo, done}
 use Rattle.divisors.specs.Fractions.{reduce_of}
 use Rattle.divisors.specs.Lists.{put, tidy_of}
 use Rattle.divisors.specs.Written.{lowest_above}
-use Rattle.divisors.proofs.Ascends.{same_self}
+use Rattle.divisors.specs.Lemmas.Ascends.{same_self}
 
 pub tidy_one : (f : Fraction) → tidy_of (f ∷ []) ≡ f ∷ []
 unfolding tidy_of put

@@ -1,12 +1,13 @@
 -- Folding a list of required divisors: by its steps, and computed.
-use Rattle.std.specs.Prelude.{◌≡◌, ℕ, zero, suc, ◌+◌, ◌-◌, ◌^◌, ◌<◌, cond, List, length, Some, None, sum_by, Option, ◌==◌, ◌≢◌, slice_index_or, slice_set}
+use Rattle.std.specs.Prelude.{◌≡◌, ℕ, zero, suc, ◌+◌, ◌-◌, ◌^◌, ◌<◌, Bool, true, false, cond, List, length, Some, None, sum_by, Option, ◌==◌, ◌≢◌, slice_index_or, slice_set}
 use Rattle.std.specs.Option.{option_map}
 use Rattle.std.specs.List.{remove}
 use Rattle.divisors.specs.declared.folding.Pair.{Pair}
 use Rattle.divisors.specs.declared.folding.Strip.{Strip}
 use Rattle.divisors.specs.declared.fraction.Fraction.{Fraction}
-use Rattle.divisors.specs.Fractions.{none, join_of, strip_by}
-use Rattle.divisors.specs.Lists.{tidy_of}
+use Rattle.divisors.specs.Fractions.{none}
+use Rattle.divisors.specs.Joining.{join_of, strip_by}
+use Rattle.divisors.specs.Lists.{Tidies, tidy_of}
 
 -- the pair at places i and k has no join
 abbrev pub Apart : List Fraction → ℕ → ℕ → Type 0
@@ -43,18 +44,49 @@ pub record FirstStrip (xs : List Fraction) (t : Strip) : Type 0 where
 
 -- the join stands in the place of the left one, and the right one goes
 abbrev pub joined_by : Pair → List Fraction → List Fraction
-joined_by t xs = tidy_of (remove (slice_set xs t.left t.join) t.right)
+joined_by t xs = remove (slice_set xs t.left t.join) t.right
 
 -- what is left stands in the place of the one that was stripped
 abbrev pub stripped_by : Strip → List Fraction → List Fraction
-stripped_by t xs = tidy_of (slice_set xs t.at t.left)
+stripped_by t xs = slice_set xs t.at t.left
 
--- xs folds to ys: the first pair that has a join is joined; where none has one, the first that another strips is stripped;
--- until neither happens
+-- the first pair that has a join is joined, and the list made ascending again
+pub record JoinsTo (xs ys : List Fraction) : Type 0 where
+  pub pair : Pair
+  pub first : FirstJoin xs pair
+  pub tidies : Tidies (joined_by pair xs) ys
+
+-- no pair has a join, the first fraction that another strips is stripped, and the list made ascending again
+pub record StripsTo (xs ys : List Fraction) : Type 0 where
+  pub joinless : NoJoin xs
+  pub strip : Strip
+  pub first : FirstStrip xs strip
+  pub tidies : Tidies (stripped_by strip xs) ys
+
+-- one step: a join, or else a strip
+pub data StepsTo (xs ys : List Fraction) : Type 0 where
+  joins : JoinsTo xs ys → StepsTo xs ys
+  strips : StripsTo xs ys → StepsTo xs ys
+
+-- xs folds to ys: by steps, until there is none
 pub data FoldsTo : List Fraction → List Fraction → Type 0 where
   done : {xs : List Fraction} → NoJoin xs → NoStrip xs → FoldsTo xs xs
-  joined : {xs ys : List Fraction} (t : Pair) → FirstJoin xs t → FoldsTo (joined_by t xs) ys → FoldsTo xs ys
-  stripped : {xs ys : List Fraction} (t : Strip) → NoJoin xs → FirstStrip xs t → FoldsTo (stripped_by t xs) ys → FoldsTo xs ys
+  stepped : {xs ys zs : List Fraction} → StepsTo xs ys → FoldsTo ys zs → FoldsTo xs zs
+
+-- whether xs was joined to ys; where no pair has a join, nothing changed
+abbrev pub TellsJoin : List Fraction → List Fraction → Bool → Type 0
+TellsJoin xs ys true = JoinsTo xs ys
+TellsJoin xs ys false = NoJoin xs × (ys ≡ xs)
+
+-- whether xs was stripped to ys; where none strips another, nothing changed
+abbrev pub TellsStrip : List Fraction → List Fraction → Bool → Type 0
+TellsStrip xs ys true = StripsTo xs ys
+TellsStrip xs ys false = NoStrip xs × (ys ≡ xs)
+
+-- whether there was a step from xs to ys; where there is none, nothing changed
+abbrev pub TellsStep : List Fraction → List Fraction → Bool → Type 0
+TellsStep xs ys true = StepsTo xs ys
+TellsStep xs ys false = NoJoin xs × NoStrip xs × (ys ≡ xs)
 
 -- why it ends: each step makes the list lighter, where a fraction counts for more than any numerator
 abbrev pub heavy : Fraction → ℕ
@@ -91,8 +123,8 @@ unfoldable pub fold_in : ℕ → List Fraction → List Fraction
 fold_in zero xs = xs
 fold_in (suc k) xs =
     elim (first_join_of xs) [
-      | Some t ↦ fold_in k (joined_by t xs)
-      | None ↦ elim (first_strip_of xs) [ Some t ↦ fold_in k (stripped_by t xs) | None ↦ xs ]
+      | Some t ↦ fold_in k (tidy_of (joined_by t xs))
+      | None ↦ elim (first_strip_of xs) [ Some t ↦ fold_in k (tidy_of (stripped_by t xs)) | None ↦ xs ]
     ]
 
 -- what a list folds to, computed

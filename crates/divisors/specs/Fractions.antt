@@ -1,12 +1,10 @@
--- Fractions p/q: size, lowest terms, multiples, joins and strips.
-use Rattle.std.specs.Prelude.{◌≡◌, ℕ, ◌-◌, ◌*◌, ◌/◌, ◌%◌, ◌^◌, ◌<◌, Bool, cond, ◌&&◌, ◌↔◌, ℤ, pos, ◌*ℤ◌, Some, None, Option, ◌==◌, nat_le, nat_lt}
+-- Fractions p/q: size, lowest terms, multiples.
+use Rattle.std.specs.Prelude.{◌≡◌, ℕ, ◌*◌, ◌/◌, ◌%◌, ◌^◌, ◌<◌, Bool, ◌&&◌, ◌↔◌, ℤ, pos, ◌*ℤ◌, ◌==◌, nat_lt}
 use Rattle.std.specs.declared.cmp.Ordering.{Ordering}
 use Rattle.std.specs.Int.{◌∣◌}
-use Rattle.std.specs.Option.{option_map}
 use Rattle.std.specs.Ordering.{MatchOrdering}
 use Rattle.divisors.specs.declared.fraction.Fraction.{Fraction}
-use Rattle.divisors.specs.Whole.{gcd_of, lcm_of}
-use Rattle.divisors.specs.Shared.{strip_of}
+use Rattle.divisors.specs.Whole.{IsGcd, gcd_of}
 
 -- no divisor: what stands in the free places of a row
 abbrev pub none : Fraction
@@ -55,10 +53,12 @@ lower a b = nat_lt (a.p * b.q) (b.p * a.q)
 abbrev pub MultipleOf : Fraction → ℤ → Type 0
 MultipleOf f v = (k : ℤ) × (v *ℤ pos f.q ≡ k *ℤ pos f.p)
 
--- g is f in lowest terms: reduced, with the same multiples
+-- g is f in lowest terms: of the same size, with parts that only 1 divides both, and with the same multiples
 pub record LowestTerms (f g : Fraction) : Type 0 where
   pub value : g ≡ reduce_of f
+  pub size : g.p * f.q ≡ f.p * g.q
   pub reduced : Reduced g
+  pub coprime : IsGcd g.p g.q 1
   pub multiples : (v : ℤ) → (MultipleOf g v) ↔ (MultipleOf f v)
 
 -- a whole number is a multiple
@@ -68,23 +68,3 @@ Multiple f n = f.p ∣ n * f.q
 -- the same, computed
 abbrev pub is_multiple : ℕ → Fraction → Bool
 is_multiple n f = n * f.q % f.p == 0
-
--- p/q divides r/s when r/s is a whole multiple of it: r * q is a multiple of p * s
-abbrev pub Divides : Fraction → Fraction → Type 0
-Divides a b = a.p * b.q ∣ b.p * a.q
-
--- the same of reduced fractions, with no product: p divides r, and s divides q; a part 0 divides nothing
-abbrev pub divides : Fraction → Fraction → Bool
-divides a b = nat_lt 0 a.p && (nat_lt 0 b.q && (b.p % a.p == 0 && a.q % b.q == 0))
-
--- a number, or nothing where it exceeds 2^63 - 1
-abbrev pub fitting : ℕ → Option ℕ
-fitting n = cond (nat_le n (2 ^ 63 - 1)) (Some n) None
-
--- the join of p/q and r/s: lcm(p, r)/gcd(q, s), absent exactly when lcm(p, r) exceeds 2^63 - 1
-abbrev pub join_of : Fraction → Fraction → Option Fraction
-join_of a b = cond (nat_le (lcm_of a.p b.p) (2 ^ 63 - 1)) (Some (record { p = lcm_of a.p b.p; q = gcd_of a.q b.q })) None
-
--- a whole fraction stripped by another whole one
-abbrev pub strip_by : Fraction → Fraction → Option Fraction
-strip_by a b = cond (a.q == 1 && (b.q == 1 && nat_lt 0 a.p)) (option_map (λ n. record { p = n; q = 1 }) (strip_of a.p b.p)) None

@@ -1,6 +1,7 @@
 pub mod Whole
 pub mod Shared
 pub mod Fractions
+pub mod Joining
 pub mod Lists
 pub mod Folding
 pub mod Settled
@@ -8,3 +9,5 @@ pub mod Dividing
 pub mod Rows
 pub mod Written
 pub mod Laws
+pub mod Lemmas
+pub mod Lawful

@@ -1,8 +1,8 @@
 -- Lists of fractions: tests over a list, ascending lists without repeats, the order of lists.
-use Rattle.std.specs.Prelude.{ℕ, suc, Bool, true, false, cond, ◌&&◌, List, [], ◌∷◌, length, Some, None, Option, nat_lt, slice_index_or}
+use Rattle.std.specs.Prelude.{◌≡◌, ℕ, suc, Bool, true, false, cond, ◌&&◌, ◌↔◌, Contains, List, [], ◌∷◌, length, Some, None, Option, nat_lt, slice_index_or}
 use Rattle.std.specs.List.{insert, list_all, list_any}
 use Rattle.divisors.specs.declared.fraction.Fraction.{Fraction}
-use Rattle.divisors.specs.Fractions.{none, same, lower}
+use Rattle.divisors.specs.Fractions.{is_reduced, lower, none, same}
 
 -- whether a test holds of one of a list
 abbrev pub some : (Fraction → Bool) → List Fraction → Bool
@@ -12,11 +12,24 @@ some p xs = list_any p xs
 abbrev pub every : (Fraction → Bool) → List Fraction → Bool
 every p xs = list_all p xs
 
+abbrev pub are_reduced : List Fraction → Bool
+are_reduced fs = every is_reduced fs
+
 -- each fraction is lower than the next: ascending, without repeats
 abbrev pub ascends : List Fraction → Bool
 ascends [] = true
 ascends (f ∷ []) = true
 ascends (f ∷ g ∷ fs) = lower f g && ascends (g ∷ fs)
+
+-- the second list is the first made ascending: it has the same members, each lower than the next
+pub record Tidies (xs ys : List Fraction) : Type 0 where
+  pub rising : ascends ys ≡ true
+  pub members : (x : Fraction) → (Contains ys x) ↔ (Contains xs x)
+
+-- a list that is worked on: reduced fractions, ascending
+pub record IsTidy (xs : List Fraction) : Type 0 where
+  pub reduced : are_reduced xs ≡ true
+  pub rising : ascends xs ≡ true
 
 -- how many fractions at the front are lower than f
 abbrev pub place_of : Fraction → List Fraction → ℕ

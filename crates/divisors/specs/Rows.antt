@@ -1,5 +1,5 @@
 -- The lists that working lists and plain rows hold.
-use Rattle.std.specs.Prelude.{Bool, ◌&&◌, List, length, take, drop, ◌==◌, nat_le}
+use Rattle.std.specs.Prelude.{◌-◌, Bool, ◌&&◌, ◌++◌, List, length, replicate, take, drop, ◌==◌, nat_le}
 use Rattle.divisors.specs.declared.fraction.Fraction.{Fraction}
 use Rattle.divisors.specs.declared.row.Row.{Row}
 use Rattle.divisors.specs.declared.working.Working.{Working}
@@ -15,6 +15,10 @@ held w = take w.count w.items
 -- the fractions that a row holds
 abbrev pub fractions : Row → List Fraction
 fractions r = take r.count r.items
+
+-- the row that holds a list, with its free places
+abbrev pub row_of : List Fraction → Row
+row_of fs = record { items = fs ++ replicate (6 - length fs) none; count = length fs }
 
 -- six places, and those past the count are free: so rows of equal lists are equal
 abbrev pub padded : Row → Bool

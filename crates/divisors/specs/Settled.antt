@@ -1,11 +1,8 @@
 -- Required lists as they are kept.
 use Rattle.std.specs.Prelude.{Bool, true, not, ◌&&◌, List, [], ◌∷◌, is_some, nat_lt}
 use Rattle.divisors.specs.declared.fraction.Fraction.{Fraction}
-use Rattle.divisors.specs.Fractions.{is_reduced, join_of, strip_by}
-use Rattle.divisors.specs.Lists.{every, ascends}
-
-abbrev pub are_reduced : List Fraction → Bool
-are_reduced fs = every is_reduced fs
+use Rattle.divisors.specs.Joining.{join_of, strip_by}
+use Rattle.divisors.specs.Lists.{are_reduced, ascends, every}
 
 -- each numerator is above 1
 abbrev pub are_more : List Fraction → Bool

@@ -1,34 +1,26 @@
 -- From divisors as written to the lists that are kept, and what is refused.
-use Rattle.std.specs.Prelude.{◌≡◌, ℕ, Bool, cond, ◌&&◌, ◌↔◌, List, map, length, ℤ, Some, None, Ok, Err, filter, Option, Result, nat_le, nat_lt}
+use Rattle.std.specs.Prelude.{◌≡◌, ℕ, Bool, true, cond, ◌&&◌, ◌↔◌, Contains, List, map, length, ℤ, Some, None, filter, Option, nat_le, nat_lt}
 use Rattle.std.specs.List.{AllByRecursion}
+use Rattle.faults.specs.Faults.{Refused, unplaced}
 use Rattle.divisors.specs.declared.fraction.Fraction.{Fraction}
-use Rattle.divisors.specs.declared.refusal.Refusal.{Refusal}
-use Rattle.divisors.specs.declared.refusal.Refusal.TheVariants.{OutOfRange, TooMany}
 use Rattle.divisors.specs.Fractions.{MultipleOf, in_range, reduce_of}
-use Rattle.divisors.specs.Lists.{every, tidy_of}
+use Rattle.divisors.specs.Lists.{Tidies, ascends, every, tidy_of}
 use Rattle.divisors.specs.Folding.{FoldsTo, NoJoin, NoStrip, fold_of}
-use Rattle.divisors.specs.Dividing.{thin_of}
-
--- the number of each refusal
-abbrev pub number_of : Refusal → ℕ
-number_of OutOfRange = 5
-number_of TooMany = 6
-
--- the number of the refusal that an answer is, if it is one
-abbrev pub refused : {A : Type 0} → Result A Refusal → Option ℕ
-refused (Ok x) = None
-refused (Err e) = Some (number_of e)
+use Rattle.divisors.specs.Dividing.{Divides, thin_of}
 
 abbrev pub are_in_range : List Fraction → Bool
 are_in_range ws = every in_range ws
 
 -- what is refused of divisors as written: 5 where a part is 0 or above 2^63 - 1; else 6 where there are more than six
-abbrev pub refusal_of : List Fraction → Option ℕ
-refusal_of ws = cond (are_in_range ws) (cond (nat_le (length ws) 6) None (Some 6)) (Some 5)
+abbrev pub refusal_of : List Fraction → Option Refused
+refusal_of ws = cond (are_in_range ws) (cond (nat_le (length ws) 6) None (Some (unplaced 6))) (Some (unplaced 5))
 
 -- what is refused of required and barred divisors as written: 5 of either list before 6 of either
-abbrev pub refusal_of_both : List Fraction → List Fraction → Option ℕ
-refusal_of_both rs bs = cond (are_in_range rs && are_in_range bs) (cond (nat_le (length rs) 6 && nat_le (length bs) 6) None (Some 6)) (Some 5)
+abbrev pub refusal_of_both : List Fraction → List Fraction → Option Refused
+refusal_of_both rs bs =
+    cond (are_in_range rs && are_in_range bs)
+    (cond (nat_le (length rs) 6 && nat_le (length bs) 6) None (Some (unplaced 6)))
+    (Some (unplaced 5))
 
 -- in lowest terms, those with a numerator above n
 abbrev pub lowest_above : ℕ → List Fraction → List Fraction
@@ -56,8 +48,11 @@ Spares xs v = AllByRecursion (λ f. MultipleOf f v → ⊥) xs
 
 -- xs is the folded list of the divisors ws as written
 pub record FoldOf (ws xs : List Fraction) : Type 0 where
-  -- it is what the steps give, and they end with it
+  -- those of which not every integer is a multiple are made ascending, and the steps end with xs
+  pub filled : Tidies (lowest_above 1 ws) (over_integers ws)
   pub steps : FoldsTo (over_integers ws) xs
+  -- nothing is left to do: it ascends, no pair joins, and none strips another
+  pub rising : ascends xs ≡ true
   pub joinless : NoJoin xs
   pub stripless : NoStrip xs
   -- the same, computed
@@ -65,8 +60,17 @@ pub record FoldOf (ws xs : List Fraction) : Type 0 where
   -- it admits exactly the integers that the written divisors admit
   pub admits : (v : ℤ) → (Admits xs v) ↔ (Admits ws v)
 
+-- an undivided fraction of a list: no other of the list divides it
+pub record IsUndivided (ws : List Fraction) (x : Fraction) : Type 0 where
+  pub member : Contains ws x
+  pub undivided : (y : Fraction) → Contains ws y → Divides y x → y ≡ x
+
 -- xs is the thinned list of the divisors ws as written
 pub record ThinOf (ws xs : List Fraction) : Type 0 where
+  -- it ascends, and holds those of the divisors in lowest terms that no other divides
+  pub rising : ascends xs ≡ true
+  pub members : (x : Fraction) → (Contains xs x) ↔ IsUndivided (map reduce_of ws) x
+  -- the same, computed
   pub value : xs ≡ barred_of ws
   -- it bars exactly the integers that the written divisors bar
   pub spares : (v : ℤ) → (Spares xs v) ↔ (Spares ws v)

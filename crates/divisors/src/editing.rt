@@ -1,8 +1,8 @@
 ghost use Rattle.std.specs.Prelude.{◌≡◌, ◌+◌, ◌<◌, ◌≤◌, true, ◌&&◌, [], ◌∷◌, ◌++◌, length, nat_lt, slice_index_or, slice_set};
 ghost use Rattle.divisors.specs.Fractions.{none, same};
-ghost use Rattle.divisors.specs.Lists.{place_of, put, tidy_of};
+ghost use Rattle.divisors.specs.Lists.{IsTidy, Tidies, are_reduced, place_of, put, tidy_of};
 ghost use Rattle.divisors.specs.Rows.{fractions, held, padded};
-ghost use Rattle.divisors.specs.Written.{lowest_above};
+ghost use Rattle.divisors.specs.Written.{are_in_range, lowest_above};
 ghost use Rattle.std.specs.List.{insert, remove};
 
 use crate::fraction::Fraction;
@@ -23,6 +23,7 @@ impl Working {
 
     // The fractions.
     pub(crate) fn as_slice(&self) -> &[Fraction]
+        requires { self.now.count ≤ 12 }
         ensures row { result.now ≡ held self.now }
         ensures count { length result.now ≡ self.now.count }
     {
@@ -32,7 +33,8 @@ impl Working {
     // The fraction `f` in the place of another.
     #[tactic(auto, using(crate::proofs::Places::take_set_lt))]
     pub(crate) fn replace(&mut self, at: usize, f: Fraction)
-        requires { at < self.old.count }
+        requires within { at < self.old.count }
+        requires fits { self.old.count ≤ 12 }
         ensures row { held self.new ≡ slice_set (held self.old) at f }
         ensures count { self.new.count ≡ self.old.count }
     {
@@ -41,7 +43,8 @@ impl Working {
 
     // One fraction goes, and those behind it move up.
     pub(crate) fn remove(&mut self, at: usize)
-        requires { at < self.old.count }
+        requires within { at < self.old.count }
+        requires fits { self.old.count ≤ 12 }
         ensures row { held self.new ≡ remove (held self.old) at }
         ensures count { self.new.count + 1 ≡ self.old.count }
     {
@@ -61,6 +64,7 @@ impl Working {
 
     // The place of `f` in an ascending list: how many stand at the front that are lower.
     fn place(&self, f: Fraction) -> usize
+        requires { self.now.count ≤ 12 }
         ensures place { result ≡ place_of f (held self.now) }
         ensures below { result ≤ self.now.count }
     {
@@ -72,7 +76,8 @@ impl Working {
 
     // `f` at a place, and those from there on move down.
     fn insert(&mut self, at: usize, f: Fraction)
-        requires { (self.old.count < 12) × (at ≤ self.old.count) }
+        requires room { self.old.count < 12 }
+        requires within { at ≤ self.old.count }
         ensures row { held self.new ≡ insert (held self.old) at f }
         ensures count { self.new.count ≡ self.old.count + 1 }
     {
@@ -83,6 +88,7 @@ impl Working {
 
     // Whether `f` stands at a place.
     fn has_at(&self, at: usize, f: Fraction) -> bool
+        requires { self.now.count ≤ 12 }
         ensures { result ≡ (nat_lt at (length (held self.now)) && same (slice_index_or (held self.now) at none) f) }
     {
         at < self.count && self.items[at] == f
@@ -105,7 +111,10 @@ impl Working {
     // The list made ascending, without repeats.
     #[tactic(auto, unfolding(crate::specs::Lists::tidy_of))]
     pub(crate) fn tidy(&mut self)
+        requires fits { self.old.count ≤ 12 }
+        requires reduced { are_reduced (held self.old) ≡ true }
         ensures row { held self.new ≡ tidy_of (held self.old) }
+        ensures tidies { Tidies (held self.old) (held self.new) }
         ensures count { self.new.count ≤ self.old.count }
     {
         let all = self.as_slice();
@@ -119,8 +128,11 @@ impl Working {
     // Written divisors in lowest terms, those with a numerator above `above`, ascending, without repeats.
     #[tactic(auto, unfolding(crate::specs::Lists::tidy_of))]
     pub(crate) fn of_written(ws: &[Fraction], above: u64) -> Working
-        requires { length ws.now ≤ 12 }
+        requires few { length ws.now ≤ 12 }
+        requires in_range { are_in_range ws.now ≡ true }
         ensures row { held result ≡ tidy_of (lowest_above above ws.now) }
+        ensures tidies { Tidies (lowest_above above ws.now) (held result) }
+        ensures tidy { IsTidy (held result) }
         ensures count { result.count ≤ length ws.now }
     {
         let mut list = Working::new();

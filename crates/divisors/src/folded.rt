@@ -1,14 +1,15 @@
-ghost use Rattle.divisors.specs.Laws.{WorkedFolds};
+ghost use Rattle.divisors.specs.Laws.{KeptLaws, WorkedFolds};
 ghost use Rattle.divisors.specs.Rows.{fractions, is_folded};
-ghost use Rattle.divisors.specs.Written.{FoldOf, refusal_of, refused};
+ghost use Rattle.divisors.specs.Written.{FoldOf, refusal_of};
+ghost use Rattle.faults.specs.Faults.{refused_with};
 ghost use Rattle.std.specs.Prelude.{◌≡◌, true, false, IfOk, MatchOption, OnOk};
 
 use crate::fraction::Fraction;
-use crate::refusal::Refusal;
 use crate::row::Row;
 use crate::written::{check_list, folded_row, is_folded};
+use faults::Fault;
 
-// A folded list of required divisors.
+/// A folded list of required divisors.
 #[derive(Clone, Copy)]
 pub struct Folded {
     row: Row,
@@ -16,9 +17,11 @@ pub struct Folded {
 }
 
 impl Folded {
-    // The folded list of divisors as written; refusal 5 where a part is out of range, else 6 where there are more than six.
-    pub fn over_integers(ws: &[Fraction]) -> Result<Folded, Refusal>
-        ensures refuses { refused result ≡ refusal_of ws.now }
+    /// The folded list of divisors as written.
+    ///
+    /// Refused with 5 where a part is 0 or above 2^63 - 1, else with 6 where there are more than six.
+    pub fn over_integers(ws: &[Fraction]) -> Result<Folded, Fault>
+        ensures refuses { refused_with result ≡ refusal_of ws.now }
         ensures folds { IfOk result (λ f. FoldOf ws.now (fractions f.row)) }
         ensures worked { OnOk result (WorkedFolds) }
     {
@@ -28,9 +31,11 @@ impl Folded {
         })
     }
 
-    // The folded list that a plain row holds, if it holds one.
+    /// The folded list that a plain row holds, if it holds one.
+    #[tactic(auto, using(crate::specs::Lawful::kept_laws))]
     pub fn from_row(row: Row) -> Option<Folded>
-        ensures { MatchOption result (is_folded row ≡ false) (λ f. f.row ≡ row) }
+        ensures holds { MatchOption result (is_folded row ≡ false) (λ f. f.row ≡ row) }
+        ensures laws { KeptLaws }
     {
         if !is_folded(&row) {
             return None;
@@ -38,7 +43,7 @@ impl Folded {
         Some(Folded { row })
     }
 
-    // The list as a plain row.
+    /// The list as a plain row.
     pub fn row(self) -> Row
         ensures row { result ≡ self.row }
         ensures folded { is_folded result ≡ true }

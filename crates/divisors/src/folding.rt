@@ -1,6 +1,8 @@
-ghost use Rattle.std.specs.Prelude.{◌≡◌, ◌<◌, ◌≤◌, List, MatchBool, MatchOption};
-ghost use Rattle.divisors.specs.Folding.{FirstJoin, FirstStrip, FoldsTo, NoJoin, NoStrip, fold_of, joined_by, stripped_by, weight};
+ghost use Rattle.divisors.specs.Folding.{FirstJoin, FirstStrip, FoldsTo, NoJoin, NoStrip, TellsJoin, TellsStep, TellsStrip, weight};
+ghost use Rattle.divisors.specs.Lists.{IsTidy};
 ghost use Rattle.divisors.specs.Rows.{held};
+ghost use Rattle.std.specs.Bool.{OnTrue};
+ghost use Rattle.std.specs.Prelude.{◌<◌, ◌≤◌, MatchOption};
 
 use crate::fraction::Fraction;
 use crate::working::Working;
@@ -24,6 +26,7 @@ pub(crate) struct Strip {
 impl Working {
     // The first pair that has a join, lowest left, then lowest right.
     fn first_join(&self) -> Option<Pair>
+        requires { self.now.count ≤ 12 }
         ensures { MatchOption result (NoJoin (held self.now)) (λ t. FirstJoin (held self.now) t) }
     {
         let list = self.as_slice();
@@ -40,8 +43,11 @@ impl Working {
 
     // The first pair that has a join is joined; false where there is none. A bool, for `||` and `while`: there is no more to tell.
     fn join_once(&mut self) -> bool
-        ensures row { MatchBool result ((t : Pair) × FirstJoin (held self.old) t × (held self.new ≡ joined_by t (held self.old))) (NoJoin (held self.old) × (held self.new ≡ held self.old)) }
-        ensures count { MatchBool result (self.new.count < self.old.count) (self.new.count ≤ self.old.count) }
+        requires fits { self.old.count ≤ 12 }
+        requires tidy { IsTidy (held self.old) }
+        ensures join { TellsJoin (held self.old) (held self.new) result }
+        ensures tidy { IsTidy (held self.new) }
+        ensures count { self.new.count ≤ self.old.count }
     {
         let Some(t) = self.first_join() else {
             return false;
@@ -54,6 +60,7 @@ impl Working {
 
     // The first fraction that another strips, by the lowest other that can.
     fn first_strip(&self) -> Option<Strip>
+        requires { self.now.count ≤ 12 }
         ensures { MatchOption result (NoStrip (held self.now)) (λ t. FirstStrip (held self.now) t) }
     {
         let list = self.as_slice();
@@ -70,9 +77,13 @@ impl Working {
         None
     }
 
-    // The first fraction that another strips is stripped; false where there is none, as above.
+    // Where no pair has a join, the first fraction that another strips is stripped; false where there is none, as above.
     fn strip_once(&mut self) -> bool
-        ensures row { MatchBool result ((t : Strip) × FirstStrip (held self.old) t × (held self.new ≡ stripped_by t (held self.old))) (NoStrip (held self.old) × (held self.new ≡ held self.old)) }
+        requires fits { self.old.count ≤ 12 }
+        requires tidy { IsTidy (held self.old) }
+        requires joinless { NoJoin (held self.old) }
+        ensures strip { TellsStrip (held self.old) (held self.new) result }
+        ensures tidy { IsTidy (held self.new) }
         ensures count { self.new.count ≤ self.old.count }
     {
         let Some(t) = self.first_strip() else {
@@ -85,18 +96,22 @@ impl Working {
 
     // One join, or else one strip; false where there is neither, as above.
     fn step(&mut self) -> bool
-        ensures row { MatchBool result ((ys : List Fraction) → FoldsTo (held self.new) ys → FoldsTo (held self.old) ys) (FoldsTo (held self.old) (held self.new)) }
-        ensures weight { MatchBool result (weight (held self.new) < weight (held self.old)) (0 ≤ 0) }
+        requires fits { self.old.count ≤ 12 }
+        requires tidy { IsTidy (held self.old) }
+        ensures step { TellsStep (held self.old) (held self.new) result }
+        ensures lighter { OnTrue result (weight (held self.new) < weight (held self.old)) }
+        ensures tidy { IsTidy (held self.new) }
         ensures count { self.new.count ≤ self.old.count }
     {
         self.join_once() || self.strip_once()
     }
 
     // Joins and strips until neither happens.
-    #[tactic(auto, using(crate::proofs::Folds::folds_to))]
     pub(crate) fn fold(&mut self)
+        requires fits { self.old.count ≤ 12 }
+        requires tidy { IsTidy (held self.old) }
         ensures folds { FoldsTo (held self.old) (held self.new) }
-        ensures value { held self.new ≡ fold_of (held self.old) }
+        ensures tidy { IsTidy (held self.new) }
         ensures count { self.new.count ≤ self.old.count }
     {
         while self.step() {}

@@ -1,13 +1,15 @@
-ghost use Rattle.divisors.specs.Fractions.{BySize, LowestTerms, divides, in_range, is_multiple, join_of, lower, reduce_of, same, strip_by};
-ghost use Rattle.divisors.specs.Laws.{MultiplesMean};
-ghost use Rattle.divisors.specs.Written.{refused};
-ghost use Rattle.std.specs.Prelude.{◌≡◌, true, not, ◌&&◌, IfOk, if◌then◌else◌, Some, None, unsigned_abs};
+ghost use Rattle.divisors.specs.Dividing.{Divides, divides};
+ghost use Rattle.divisors.specs.Fractions.{BySize, LowestTerms, MultipleOf, in_range, is_multiple, lower, reduce_of, same};
+ghost use Rattle.divisors.specs.Joining.{IsJoin, IsStrip, join_of, strip_by};
+ghost use Rattle.divisors.specs.Laws.{WorkedDivides};
+ghost use Rattle.faults.specs.Faults.{refused_with, unplaced};
+ghost use Rattle.std.specs.Prelude.{◌≡◌, ◌↔◌, true, not, ◌&&◌, IfOk, IsTrue, if◌then◌else◌, Some, None, unsigned_abs};
 
-use crate::refusal::Refusal;
 use crate::whole::{LARGEST, gcd, is_multiple, lcm, order, stripped};
+use faults::{Fault, Refusal};
 use std::cmp::Ordering;
 
-// A fraction p/q, as written or in lowest terms; laid out as in C, for callers there.
+/// A fraction p/q, as written or in lowest terms; laid out as in C, for callers there. Parts may be anything: each question answers.
 #[repr(C)]
 #[derive(Clone, Copy, PartialEq, Eq, Debug)]
 pub struct Fraction {
@@ -16,18 +18,20 @@ pub struct Fraction {
 }
 
 impl Fraction {
-    // The fraction in lowest terms; refusal 5 where a part is 0 or above 2^63 - 1.
-    pub fn reduced(self) -> Result<Fraction, Refusal>
-        ensures refuses { refused result ≡ (if in_range self then None else Some 5) }
+    /// The fraction in lowest terms.
+    ///
+    /// Refused with 5 where a part is 0 or above 2^63 - 1.
+    pub fn reduced(self) -> Result<Fraction, Fault>
+        ensures refuses { refused_with result ≡ (if in_range self then None else Some (unplaced 5)) }
         ensures reduces { IfOk result (λ f. LowestTerms self f) }
     {
         if !self.is_in_range() {
-            return Err(Refusal::OutOfRange);
+            return Err(Fault::unplaced(Refusal::BadPart));
         }
         Ok(self.lowest_terms())
     }
 
-    // The order by size: p * s against r * q. Not an `Ord`: 1/2 and 2/4 tie, and are not equal.
+    /// The order by size. Not an `Ord`: 1/2 and 2/4 tie, and are not equal.
     pub fn cmp(self, other: Fraction) -> Ordering
         ensures { BySize self other result }
     {
@@ -38,24 +42,27 @@ impl Fraction {
         }
     }
 
-    // Whether an integer is a multiple of this fraction.
+    /// Whether an integer is a multiple of this fraction.
     pub fn divides(self, v: i64) -> bool
         ensures value { result ≡ is_multiple (unsigned_abs v) self }
-        ensures means { MultiplesMean }
+        ensures means { IsTrue result ↔ MultipleOf self v }
     {
         is_multiple(v.unsigned_abs(), self.p, self.q)
     }
 
-    // Whether another reduced fraction is a whole multiple of this one.
+    /// Whether another fraction is a whole multiple of this one, by size: 4/2 divides 2/1.
+    #[tactic(auto, using(crate::specs::Lawful::worked_divides))]
     pub fn divides_divisor(self, other: Fraction) -> bool
-        ensures { result ≡ divides self other }
+        ensures means { IsTrue result ↔ Divides self other }
+        ensures worked { WorkedDivides }
     {
-        self.p != 0 && other.q != 0 && other.p % self.p == 0 && self.q % other.q == 0
+        self.lowest_terms().divides_reduced(other.lowest_terms())
     }
 
-    // The join of two fractions, absent exactly when its numerator exceeds 2^63 - 1.
+    /// The join: the least common multiple of the numerators over the greatest common divisor of the denominators.
     pub fn checked_lcm(self, other: Fraction) -> Option<Fraction>
-        ensures { result ≡ join_of self other }
+        ensures value { result ≡ join_of self other }
+        ensures joins { IsJoin self other result }
     {
         let p = lcm(self.p, other.p)?;
         Some(Fraction {
@@ -64,9 +71,11 @@ impl Fraction {
         })
     }
 
-    // A whole fraction without what it shares with another whole one; nothing where nothing can go.
+    /// A whole fraction, one whose denominator is 1, without what its numerator shares with that of another whole one; nothing where
+    /// nothing can go.
     pub fn without_factors_of(self, other: Fraction) -> Option<Fraction>
-        ensures { result ≡ strip_by self other }
+        ensures value { result ≡ strip_by self other }
+        ensures strips { IsStrip self other result }
     {
         if self.q != 1 || other.q != 1 || self.p == 0 {
             return None;
@@ -106,10 +115,17 @@ impl Fraction {
         self.cmp(other).is_lt()
     }
 
-    // Whether this fraction divides another one that is not the same.
+    // Whether one reduced fraction divides another.
+    pub(crate) fn divides_reduced(self, other: Fraction) -> bool
+        ensures { result ≡ divides self other }
+    {
+        self.p != 0 && other.q != 0 && other.p % self.p == 0 && self.q % other.q == 0
+    }
+
+    // Whether a reduced fraction divides another one that is not the same.
     pub(crate) fn divides_other(self, other: Fraction) -> bool
         ensures { result ≡ (divides self other && not (same self other)) }
     {
-        self.divides_divisor(other) && self != other
+        self.divides_reduced(other) && self != other
     }
 }

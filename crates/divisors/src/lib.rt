@@ -5,7 +5,6 @@ mod editing;
 mod folded;
 mod folding;
 mod fraction;
-mod refusal;
 mod row;
 mod thinned;
 mod thinning;
@@ -15,7 +14,6 @@ mod written;
 
 pub use folded::Folded;
 pub use fraction::Fraction;
-pub use refusal::Refusal;
 pub use row::Row;
 pub use thinned::Thinned;
 pub use written::check;

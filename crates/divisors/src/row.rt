@@ -1,13 +1,14 @@
-ghost use Rattle.divisors.specs.Dividing.{bars_no_more, divide_all};
+ghost use Rattle.divisors.specs.Dividing.{TellsDivided, TellsDividing, bars_no_more, divide_all};
 ghost use Rattle.divisors.specs.Fractions.{is_multiple};
 ghost use Rattle.divisors.specs.Laws.{BarredLaws, OrderLaws, RequiredLaws};
 ghost use Rattle.divisors.specs.Lists.{at_most, every, sole_of, some, tidy_of};
 ghost use Rattle.divisors.specs.Rows.{fractions, padded};
-ghost use Rattle.divisors.specs.Written.{lowest_above, refused};
-ghost use Rattle.std.specs.Prelude.{◌≡◌, ◌≤◌, true, [], ◌∷◌, ◌++◌, length, if◌then◌else◌, nat_lt, OnErr, OnOk, unsigned_abs};
+ghost use Rattle.divisors.specs.Written.{Admits, Spares, lowest_above};
+ghost use Rattle.faults.specs.Faults.{refused_with, unplaced};
+ghost use Rattle.std.specs.Prelude.{◌≡◌, ◌≤◌, ◌↔◌, true, false, [], ◌∷◌, ◌++◌, length, if◌then◌else◌, nat_lt, IsTrue, OnErr, OnOk, unsigned_abs};
 
 use crate::fraction::Fraction;
-use crate::refusal::Refusal;
+use faults::{Fault, Refusal};
 use std::cmp::Ordering;
 
 // The places of a row.
@@ -16,7 +17,8 @@ pub(crate) const PLACES: usize = 6;
 // What stands in a row's free places.
 pub(crate) const NONE: Fraction = Fraction { p: 0, q: 0 };
 
-// Fractions in the first `count` of six places: plain, so that it can lie in a table.
+/// Fractions in the first `count` of six places: plain, so that it can lie in a table. `==` is that of the lists held where free places
+/// hold nothing, as in each row made here.
 #[derive(Clone, Copy, PartialEq, Eq, Debug)]
 pub struct Row {
     pub(crate) items: [Fraction; 6],
@@ -24,7 +26,7 @@ pub struct Row {
 }
 
 impl Row {
-    // A row that holds none.
+    /// A row that holds none.
     pub fn empty() -> Row
         ensures none { fractions result ≡ [] }
         ensures padded { padded result ≡ true }
@@ -51,23 +53,25 @@ impl Row {
         }
     }
 
-    // `f` behind the others; refusal 6, and nothing changed, where six are held.
+    /// Puts a fraction behind the others, as it is.
+    ///
+    /// Refused with 6 where six are held.
     #[tactic(auto, using(crate::proofs::Padded::padded_more))]
-    pub fn push(&mut self, f: Fraction) -> Result<(), Refusal>
-        ensures refuses { refused result ≡ (if nat_lt (length (fractions self.old)) 6 then None else Some 6) }
+    pub fn push(&mut self, f: Fraction) -> Result<(), Fault>
+        ensures refuses { refused_with result ≡ (if nat_lt (length (fractions self.old)) 6 then None else Some (unplaced 6)) }
         ensures pushes { OnOk result (fractions self.new ≡ fractions self.old ++ f ∷ []) }
         ensures padded { padded self.old ≡ true → padded self.new ≡ true }
         ensures kept { OnErr result (self.new ≡ self.old) }
     {
         if self.count >= PLACES {
-            return Err(Refusal::TooMany);
+            return Err(Fault::unplaced(Refusal::ManyDivisors));
         }
         self.items[self.count] = f;
         self.count += 1;
         Ok(())
     }
 
-    // The fractions held.
+    /// The fractions held.
     pub fn fractions(&self) -> &[Fraction]
         ensures list { result.now ≡ fractions self.now }
         ensures few { length result.now ≤ 6 }
@@ -75,21 +79,23 @@ impl Row {
         &self.items[..self.count.min(PLACES)]
     }
 
-    // Whether an integer is a multiple of each.
+    /// Whether an integer is a multiple of each.
     pub fn divide(&self, v: i64) -> bool
-        ensures { result ≡ every (is_multiple (unsigned_abs v)) (fractions self.now) }
+        ensures value { result ≡ every (is_multiple (unsigned_abs v)) (fractions self.now) }
+        ensures means { IsTrue result ↔ Admits (fractions self.now) v }
     {
         self.fractions().iter().all(|f| f.divides(v))
     }
 
-    // Whether an integer is a multiple of one.
+    /// Whether an integer is a multiple of one.
     pub fn bars(&self, v: i64) -> bool
-        ensures { result ≡ some (is_multiple (unsigned_abs v)) (fractions self.now) }
+        ensures value { result ≡ some (is_multiple (unsigned_abs v)) (fractions self.now) }
+        ensures means { (result ≡ false) ↔ Spares (fractions self.now) v }
     {
         self.fractions().iter().any(|f| f.divides(v))
     }
 
-    // The divisor that stands for the whole row, where it has just one.
+    /// The divisor that stands for the whole row, where it has just one.
     pub fn sole(&self) -> Option<Fraction>
         ensures { result ≡ sole_of (fractions self.now) }
     {
@@ -99,8 +105,8 @@ impl Row {
         }
     }
 
-    // The order of rows: item by item, a row that ends first being lower.
-    #[tactic(auto, using(crate::proofs::Lawful::order_laws))]
+    /// Whether this row is no higher: item by item, a row that ends first being lower.
+    #[tactic(auto, using(crate::specs::Lawful::order_laws))]
     pub fn is_at_most(&self, other: &Row) -> bool
         ensures value { result ≡ at_most (fractions self.now) (fractions other.now) }
         ensures laws { OrderLaws }
@@ -116,27 +122,30 @@ impl Row {
         mine.len() <= others.len()
     }
 
-    // Whether each of these divides one of the other row.
-    #[tactic(auto, using(crate::proofs::Lawful::required_laws))]
+    /// Whether each of these divides one of the other row. The fractions are taken for reduced.
+    #[tactic(auto, using(crate::specs::Lawful::required_laws))]
     pub fn divide_all(&self, other: &Row) -> bool
         ensures value { result ≡ divide_all (fractions self.now) (fractions other.now) }
+        ensures means { TellsDividing (fractions self.now) (fractions other.now) result }
         ensures laws { RequiredLaws }
     {
         let (divisors, multiples) = (self.fractions(), other.fractions());
         divisors
             .iter()
-            .all(|f| multiples.iter().any(|g| f.divides_divisor(*g)))
+            .all(|f| multiples.iter().any(|g| f.divides_reduced(*g)))
     }
 
-    // Whether each of these is divided by one of the other row: not `divide_all` turned, whose each and one stay where they are.
-    #[tactic(auto, using(crate::proofs::Lawful::barred_laws))]
+    /// Whether each of these is divided by one of the other row: not `divide_all` turned, whose each and one stay where they are. The
+    /// fractions are taken for reduced.
+    #[tactic(auto, using(crate::specs::Lawful::barred_laws))]
     pub fn bars_no_more_than(&self, other: &Row) -> bool
         ensures value { result ≡ bars_no_more (fractions self.now) (fractions other.now) }
+        ensures means { TellsDivided (fractions self.now) (fractions other.now) result }
         ensures laws { BarredLaws }
     {
         let (multiples, divisors) = (self.fractions(), other.fractions());
         multiples
             .iter()
-            .all(|f| divisors.iter().any(|g| g.divides_divisor(*f)))
+            .all(|f| divisors.iter().any(|g| g.divides_reduced(*f)))
     }
 }

@@ -16,6 +16,7 @@ impl Working {
     // Fractions that another of the list divides go.
     #[tactic(auto, unfolding(crate::specs::Dividing::thin_of))]
     pub(crate) fn thin(&mut self)
+        requires { self.old.count ≤ 12 }
         ensures row { held self.new ≡ thin_of (held self.old) }
         ensures count { self.new.count ≤ self.old.count }
     {

@@ -1,6 +1,5 @@
 ghost use Rattle.std.specs.Prelude.{◌≡◌, ◌*◌, ◌%◌, ◌<◌, ◌==◌};
-ghost use Rattle.divisors.specs.Fractions.{fitting};
-ghost use Rattle.divisors.specs.Laws.{MultiplesMean};
+ghost use Rattle.divisors.specs.Joining.{fitting};
 ghost use Rattle.divisors.specs.Shared.{IsShared, rest_of, shared_of, strip_of};
 ghost use Rattle.divisors.specs.Whole.{IsGcd, IsLcm, gcd_of, lcm_of};
 ghost use Rattle.std.specs.Ordering.{MatchOrdering};
@@ -58,10 +57,8 @@ pub(crate) fn stripped(a: u64, b: u64) -> Option<u64>
 }
 
 // Whether `n * q` is a multiple of `p`, with no product: of what is left of `p` in lowest terms `n` is a multiple.
-#[tactic(auto, using(crate::proofs::Lawful::multiples_mean))]
 pub(crate) fn is_multiple(n: u64, p: u64, q: u64) -> bool
-    ensures value { result ≡ (n * q % p == 0) }
-    ensures means { MultiplesMean }
+    ensures { result ≡ (n * q % p == 0) }
 {
     if p == 0 {
         return n == 0 || q == 0;

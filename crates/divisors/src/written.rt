@@ -1,12 +1,13 @@
 ghost use Rattle.std.specs.Prelude.{◌≡◌, ◌≤◌, true, length};
 ghost use Rattle.divisors.specs.Laws.{WorkedFolds};
 ghost use Rattle.divisors.specs.Rows.{fractions, is_folded, is_thinned};
-ghost use Rattle.divisors.specs.Written.{FoldOf, ThinOf, are_in_range, refusal_of, refusal_of_both, refused};
+ghost use Rattle.divisors.specs.Written.{FoldOf, ThinOf, are_in_range, refusal_of, refusal_of_both};
+ghost use Rattle.faults.specs.Faults.{refused_with};
 
 use crate::fraction::Fraction;
-use crate::refusal::Refusal;
 use crate::row::{PLACES, Row};
 use crate::working::Working;
+use faults::{Fault, Refusal};
 
 // Whether each numerator and denominator is from 1 to 2^63 - 1.
 fn all_in_range(ws: &[Fraction]) -> bool
@@ -15,22 +16,24 @@ fn all_in_range(ws: &[Fraction]) -> bool
     ws.iter().all(|w| w.is_in_range())
 }
 
-// What is refused of required and barred divisors as written: 5 of either list before 6 of either.
-pub fn check(required: &[Fraction], barred: &[Fraction]) -> Result<(), Refusal>
-    ensures { refused result ≡ refusal_of_both required.now barred.now }
+/// Looks at required and barred divisors as written.
+///
+/// Refused with 5 where a part of either list is 0 or above 2^63 - 1, else with 6 where either has more than six.
+pub fn check(required: &[Fraction], barred: &[Fraction]) -> Result<(), Fault>
+    ensures { refused_with result ≡ refusal_of_both required.now barred.now }
 {
     if !all_in_range(required) || !all_in_range(barred) {
-        return Err(Refusal::OutOfRange);
+        return Err(Fault::unplaced(Refusal::BadPart));
     }
     if required.len() > PLACES || barred.len() > PLACES {
-        return Err(Refusal::TooMany);
+        return Err(Fault::unplaced(Refusal::ManyDivisors));
     }
     Ok(())
 }
 
 // What is refused of one list of divisors as written.
-pub(crate) fn check_list(ws: &[Fraction]) -> Result<(), Refusal>
-    ensures { refused result ≡ refusal_of ws.now }
+pub(crate) fn check_list(ws: &[Fraction]) -> Result<(), Fault>
+    ensures { refused_with result ≡ refusal_of ws.now }
 {
     check(ws, &[])
 }
@@ -50,7 +53,7 @@ pub(crate) fn folded_row(ws: &[Fraction]) -> Row
     work.row()
 }
 
-// The thinned row of divisors as written. Not one function with `folded_row`: the bound, the step and each clause differ.
+// The thinned row of divisors as written.
 pub(crate) fn thinned_row(ws: &[Fraction]) -> Row
     requires { (are_in_range ws.now ≡ true) × (length ws.now ≤ 6) }
     ensures thins { ThinOf ws.now (fractions result) }
@@ -72,8 +75,7 @@ pub(crate) fn is_folded(row: &Row) -> bool
     all_in_range(list) && *row == folded_row(list)
 }
 
-// Whether a row holds a thinned list: one that is in range and thins to itself. Not one function with `is_folded`: a closure and its clauses
-// would be longer than the line that they share.
+// Whether a row holds a thinned list: one that is in range and thins to itself.
 pub(crate) fn is_thinned(row: &Row) -> bool
     ensures { result ≡ is_thinned row.now }
 {

@@ -65,6 +65,11 @@ abbrev pub told : {A : Type 0} → Result A Fault → Result A Refused
 told (Ok x) = Ok x
 told (Err f) = Err (shown f)
 
+-- the refusal that a result is, if it is one
+abbrev pub refused_with : {A : Type 0} → Result A Fault → Option Refused
+refused_with (Ok x) = None
+refused_with (Err f) = Some (shown f)
+
 -- a maker goes on with what it has, and a refusal passes unchanged
 abbrev pub then : {A B : Type 0} → Result A Refused → (A → Result B Refused) → Result B Refused
 then (Ok x) f = f x

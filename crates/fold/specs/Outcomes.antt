@@ -2,24 +2,25 @@
 use Rattle.std.specs.Prelude.{ℕ, ◌+◌, ◌-◌, ◌^◌, min, Bool, true, false, cond, List, length, count_by, take, drop, Some, None, Ok, Err, Option, Result, nat_lt}
 use Rattle.divisors.specs.declared.fraction.Fraction.{Fraction}
 use Rattle.divisors.specs.Rows.{fractions}
-use Rattle.divisors.specs.Written.{barred_of, number_of, refusal_of_both, required_of}
+use Rattle.divisors.specs.Written.{barred_of, refusal_of_both, required_of}
+use Rattle.faults.specs.Faults.{Refused as Refusal, number_of}
 use Rattle.notation.specs.Text.{divisors_of, index_of}
 use Rattle.divisors.specs.declared.folded.Folded.{Folded}
 use Rattle.divisors.specs.declared.thinned.Thinned.{Thinned}
-use Rattle.fold.specs.declared.answer.Fault.{Fault}
-use Rattle.fold.specs.declared.answer.Fault.TheVariants.{NotTwoLists, NoRequiredList, NoBarredList}
-use Rattle.fold.specs.declared.answer.Objection.{Objection}
-use Rattle.fold.specs.declared.answer.Objection.TheVariants.{Refused, Malformed, OutOfMemory}
+use Rattle.questions.specs.declared.answer.Objection.{Objection}
+use Rattle.questions.specs.declared.answer.Objection.TheVariants.{Refused, Malformed, OutOfMemory}
+use Rattle.fold.specs.declared.answer.Wrong.{Wrong}
+use Rattle.fold.specs.declared.answer.Wrong.TheVariants.{NotTwoLists, NoRequiredList, NoBarredList}
 use Rattle.fold.specs.declared.report.Tally.{Tally}
 
 -- the folded required list and the thinned barred list, a refusal by its number, or text of another form
 pub data Outcome : Type 0 where
   lists : List Fraction → List Fraction → Outcome
   refused : ℕ → Outcome
-  malformed : Fault → Outcome
+  malformed : Wrong → Outcome
 
-abbrev pub folded_or : Option ℕ → List Fraction → List Fraction → Outcome
-folded_or (Some n) rs bs = refused n
+abbrev pub folded_or : Option Refusal → List Fraction → List Fraction → Outcome
+folded_or (Some r) rs bs = refused r.number
 folded_or None rs bs = lists (required_of rs) (barred_of bs)
 
 abbrev pub read_or : Option (List Fraction) → Option (List Fraction) → Outcome
@@ -33,9 +34,9 @@ outcome_of line =
     cond (nat_lt (index_of 32 line) (length line)) (read_or (divisors_of (take (index_of 32 line) line)) (divisors_of (drop (index_of 32 line + 1) line))) (malformed NotTwoLists)
 
 -- the outcome that an answer says, where memory did not run out
-abbrev pub said : Result (Folded × Thinned) Objection → Option Outcome
+abbrev pub said : Result (Folded × Thinned) (Objection Wrong) → Option Outcome
 said (Ok p) = Some (lists (fractions p.0.row) (fractions p.1.row))
-said (Err (Refused e)) = Some (refused (number_of e))
+said (Err (Refused f)) = Some (refused (number_of f.refusal))
 said (Err (Malformed w)) = Some (malformed w)
 said (Err (OutOfMemory e)) = None
 

@@ -2,8 +2,8 @@
 use Rattle.std.specs.Prelude.{ℕ, cond, List, [], ◌∷◌, ◌++◌, codes, flat_map, ◌==◌}
 use Rattle.std.specs.Fmt.{decimal}
 use Rattle.divisors.specs.declared.fraction.Fraction.{Fraction}
-use Rattle.fold.specs.declared.answer.Fault.{Fault}
-use Rattle.fold.specs.declared.answer.Fault.TheVariants.{NotTwoLists, NoRequiredList, NoBarredList}
+use Rattle.fold.specs.declared.answer.Wrong.{Wrong}
+use Rattle.fold.specs.declared.answer.Wrong.TheVariants.{NotTwoLists, NoRequiredList, NoBarredList}
 use Rattle.fold.specs.Outcomes.{Counts, Outcome, lists, refused, malformed}
 
 -- a whole divisor is written without its denominator
@@ -20,7 +20,7 @@ list_text [] = codes "-"
 list_text (f ∷ fs) = divisor_text f ++ flat_map more_text fs
 
 -- what is wrong with a line
-abbrev pub wrong_text : Fault → List ℕ
+abbrev pub wrong_text : Wrong → List ℕ
 wrong_text NotTwoLists = codes "not two lists with a space between"
 wrong_text NoRequiredList = codes "the required list is no list of divisors"
 wrong_text NoBarredList = codes "the barred list is no list of divisors"

@@ -64,6 +64,16 @@ mod tests {
     }
 
     #[test]
+    fn division_by_size(rt: HostRuntime) {
+        let four_halves = Fraction { p: 4, q: 2 };
+        let two = Fraction { p: 2, q: 1 };
+        let three = Fraction { p: 3, q: 1 };
+        assert!(rt; four_halves.divides_divisor(two));
+        assert!(rt; two.divides_divisor(four_halves));
+        assert!(rt; !four_halves.divides_divisor(three));
+    }
+
+    #[test]
     fn five_before_six(rt: HostRuntime) -> Result<(), Fail> {
         let seven = [Fraction { p: 2, q: 1 }; 7];
         let zero = [Fraction { p: 0, q: 1 }];
@@ -73,8 +83,8 @@ mod tests {
         let Err(six) = divisors::check(&seven, &seven) else {
             return Err(Fail::new("taken"));
         };
-        assert!(rt; five.number() == 5);
-        assert!(rt; six.number() == 6);
+        assert!(rt; five.refusal.number() == 5);
+        assert!(rt; six.refusal.number() == 6);
         Ok(())
     }
 }

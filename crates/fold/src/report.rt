@@ -3,12 +3,13 @@ ghost use Rattle.fold.specs.Texts.{divisor_text, line_text, list_text, tally_tex
 ghost use Rattle.std.specs.Io.KnownBytes.{Appends};
 ghost use Rattle.std.specs.Prelude.{◌≡◌, IfSome, IsSome, MatchOption, OnOk, Some};
 
-use crate::answer::Objection;
+use crate::answer::Wrong;
 use divisors::{Folded, Fraction, Thinned};
+use questions::Objection;
 use std::io::Write;
 use std::{fmt, io};
 
-// How many lines came to what. Not the tally of questions: an answer is two lists, and a refusal is one of divisors.
+// How many lines came to what. Not the tally of questions: an answer is two lists.
 #[derive(Default, Drop)]
 pub(crate) struct Tally {
     folded: u64,
@@ -75,7 +76,7 @@ impl Tally {
         &mut self,
         out: &mut W,
         k: u64,
-        answer: Result<(Folded, Thinned), Objection>,
+        answer: Result<(Folded, Thinned), Objection<Wrong>>,
     ) -> io::Result<()>
         ensures counts { MatchOption (said answer) (counts self.new ≡ counts self.old) (λ o. counts self.new ≡ counted o (counts self.old)) }
         ensures memory { OnOk result (IsSome (said answer)) }
@@ -90,14 +91,14 @@ impl Tally {
                 let barred = Listed(barred.fractions());
                 writeln!(out, "{required} {barred}")
             }
-            Err(Objection::Refused(refusal)) => {
+            Err(Objection::Refused(fault)) => {
                 self.refused = self.refused.saturating_add(1);
-                let n = refusal.number();
+                let n = fault.refusal.number();
                 writeln!(out, "refused {n}")
             }
-            Err(Objection::Malformed(fault)) => {
+            Err(Objection::Malformed(wrong)) => {
                 self.malformed = self.malformed.saturating_add(1);
-                writeln!(out, "line {k}: {fault}")
+                writeln!(out, "line {k}: {wrong}")
             }
             Err(Objection::OutOfMemory(error)) => Err(error.into()),
         }

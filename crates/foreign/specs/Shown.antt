@@ -12,9 +12,9 @@ use Rattle.foreign.specs.declared.lists.Divisors.{Divisors}
 use Rattle.foreign.specs.declared.text.SheetText.{SheetText}
 
 -- a list with a property, or the number of what refused it and no divisor
-abbrev pub Holds : Option ℕ → (List Fraction → Type 0) → Divisors → Type 0
+abbrev pub Holds : Option Refused → (List Fraction → Type 0) → Divisors → Type 0
 Holds None P d = (d.refusal ≡ 0) × P (take d.count d.places)
-Holds (Some n) P d = (d.refusal ≡ n) × (d.count ≡ 0)
+Holds (Some r) P d = (d.refusal ≡ r.number) × (d.count ≡ 0)
 
 -- the number of a refusal, 0 for none
 abbrev pub number_in : Option Refused → ℕ

@@ -1,9 +1,11 @@
 ghost use Rattle.divisors.specs.Rows.{fractions};
-ghost use Rattle.divisors.specs.Written.{FoldOf, ThinOf, number_of, refusal_of};
+ghost use Rattle.divisors.specs.Written.{FoldOf, ThinOf, refusal_of};
+ghost use Rattle.faults.specs.Faults.{shown};
 ghost use Rattle.foreign.specs.Shown.{Holds};
 ghost use Rattle.std.specs.Prelude.{◌≡◌, None, Some};
 
-use divisors::{Folded, Fraction, Refusal, Row, Thinned};
+use divisors::{Folded, Fraction, Row, Thinned};
+use faults::Fault;
 
 // A kept list of divisors, in the first `count` of six places; where the list as written was refused, the refusal's number and no divisor.
 #[repr(C)]
@@ -33,13 +35,13 @@ impl Divisors {
     }
 
     // No divisor, and why.
-    fn refused(refusal: Refusal) -> Divisors
-        ensures { Holds (Some (number_of refusal)) (λ xs. xs ≡ xs) result }
+    fn refused(fault: Fault) -> Divisors
+        ensures { Holds (Some (shown fault)) (λ xs. xs ≡ xs) result }
     {
         Divisors {
             places: [NONE; 6],
             count: 0,
-            refusal: refusal.number(),
+            refusal: fault.refusal.number(),
         }
     }
 }
@@ -51,7 +53,7 @@ pub extern "C" fn rule_lines_fold(written: &[Fraction]) -> Divisors
 {
     match Folded::over_integers(written) {
         Ok(folded) => Divisors::of_row(folded.row()),
-        Err(refusal) => Divisors::refused(refusal),
+        Err(fault) => Divisors::refused(fault),
     }
 }
 
@@ -62,6 +64,6 @@ pub extern "C" fn rule_lines_thin(written: &[Fraction]) -> Divisors
 {
     match Thinned::undivided(written) {
         Ok(thinned) => Divisors::of_row(thinned.row()),
-        Err(refusal) => Divisors::refused(refusal),
+        Err(fault) => Divisors::refused(fault),
     }
 }

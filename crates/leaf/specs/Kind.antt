@@ -21,6 +21,8 @@ pub record Kind (V L : Type 0) : Type 1 where
   pub rule_admits : L → V → Bool
   pub next_on_grid : L → V → Option V
   pub rule_covers : L → L → Bool
+  -- some leaf
+  pub blank : L
   -- one leaf for two: the rule of the first, in a window round both
   pub join : L → L → L
   -- whether a sheet of this kind may begin with that byte
@@ -158,6 +160,7 @@ module _ {V L : Type 0} (k : Kind V L) where
     pub next_grid : (a : L) (v w : V) → Lawful a → k.is_value v ≡ true → k.next_on_grid a v ≡ Some w → (k.on_grid a w ≡ true) × (k.le w v ≡ false)
     pub next_least : (a : L) (v w u : V) → Lawful a → k.is_value v ≡ true → k.next_on_grid a v ≡ Some w → k.on_grid a u ≡ true → k.le u v ≡ false → k.le w u ≡ true
     pub next_none : (a : L) (v u : V) → Lawful a → k.is_value v ≡ true → k.next_on_grid a v ≡ None → k.on_grid a u ≡ true → k.le u v ≡ true
+    pub blank_lawful : Lawful k.blank
     -- of any two leaves the join is lawful, of the rule of the first, with the lower minimum and the higher maximum
     pub joins : (a b : L) → Lawful a → Lawful b → Joins a b (k.join a b)
     -- the cover relation: reflexive, transitive, two rules that cover each other are equal, and a covered rule admits nothing more

@@ -3,13 +3,14 @@ pub mod Hulls
 pub mod Orders
 pub mod Deciding
 pub mod Made
-pub mod Chains
 pub mod Slices
+pub mod Flags
 pub mod Writing
 pub mod Encodes
 pub mod Rows
 pub mod Runs
 pub mod Fielded
 pub mod Parts
+pub mod Headed
 pub mod Judging
 pub mod Starts

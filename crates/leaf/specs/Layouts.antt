@@ -1,8 +1,9 @@
 -- A layout: the one statement of how leaves stand on a sheet, and on which condition each answer of their reader comes.
-use Rattle.std.specs.Prelude.{◌≡◌, ℕ, ◌+◌, ◌<◌, ◌^◌, Bool, true, false, cond, not, ◌&&◌, ◌↔◌, ◌⊎◌, List, [], ◌∷◌, ◌++◌, length, drop, ◌==◌, nat_le}
+use Rattle.std.specs.Prelude.{◌≡◌, ℕ, ◌+◌, ◌<◌, ◌≤◌, ◌^◌, Bool, true, false, cond, not, ◌&&◌, ◌↔◌, ◌⊎◌, List, [], ◌∷◌, ◌++◌, length, drop, ◌==◌, nat_le, ⊤}
 use Rattle.faults.specs.Faults.{Answer, found, refused, next, at_byte}
 use Rattle.leaf.specs.Encoding.{Written as NumberWritten, encode}
-use Rattle.leaf.specs.Plans.{Table, Plan, made_at, Makes, EndsEarly, BadNumber, Unfit}
+use Rattle.leaf.specs.Fields.{byte}
+use Rattle.leaf.specs.Plans.{Table, Plan, done, ask, made_at, Makes, EndsEarly, BadNumber, Unfit}
 
 -- leaves L, each made of what its fields make
 pub record Layout (Role Written Made L : Type 0) : Type 1 where
@@ -15,6 +16,18 @@ pub record Layout (Role Written Made L : Type 0) : Type 1 where
   pub numbers : Written → List ℕ
   pub fits : Written → Bool
   pub made : Written → Made
+
+-- no leaf stands on any sheet
+abbrev pub no_layout : {L : Type 0} → L → Layout ⊤ ⊥ ⊤ L
+no_layout blank = record {
+  table = record { shape = λ _. byte; fits = λ _ _. false; refusal = λ _. 4; named = λ _ at. at };
+  plan = ask tt (λ _ _. done tt);
+  is_window = λ _. true;
+  leaf = λ _. blank;
+  numbers = λ _. [];
+  fits = λ _. false;
+  made = λ _. tt;
+}
 
 -- the bytes of these numbers, one after the other
 abbrev pub spelled : List ℕ → List ℕ
@@ -73,6 +86,8 @@ module _ {Role Written Made L : Type 0} (y : Layout Role Written Made L) where
     -- what the fields make is a leaf as written whose numbers stand there, and such a leaf is made
     pub stood : (s : List ℕ) (at : ℕ) (m : Made) (end : ℕ) → Makes y.table s y.plan at m end → (w : Written) × (y.fits w ≡ true) × (y.made w ≡ m) × StandAsLeaf s at (y.numbers w) end
     pub makes : (s : List ℕ) (at : ℕ) (w : Written) (end : ℕ) → y.fits w ≡ true → StandAsLeaf s at (y.numbers w) end → Makes y.table s y.plan at (y.made w) end
+    -- past the end of a sheet a leaf is refused as at its end
+    pub past : (s : List ℕ) (at : ℕ) → length s ≤ at → leaf_under s at ≡ refused (at_byte 2 (length s))
     -- no two make the same
     pub same : (w v : Written) → y.fits w ≡ true → y.fits v ≡ true → y.made w ≡ y.made v → w ≡ v
 

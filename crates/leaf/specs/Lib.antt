@@ -7,5 +7,6 @@ pub mod Layouts
 pub mod Kind
 pub mod Grammar
 pub mod Windows
+pub mod Headed
 pub mod Tests
 pub mod Laws

@@ -1,5 +1,5 @@
 -- How a leaf stands on a sheet, stated once: a table of fields, and a plan, which says in what order they are due and what they make.
-use Rattle.std.specs.Prelude.{◌≡◌, ℕ, zero, suc, ◌+◌, Bool, true, false, cond, not, ◌&&◌, ◌⊎◌, List, [], ◌∷◌, ◌++◌, drop, Some, None, Option, is_some}
+use Rattle.std.specs.Prelude.{◌≡◌, ℕ, zero, suc, ◌+◌, Bool, true, false, cond, ◌⊎◌, List, [], ◌∷◌, ◌++◌, drop, Some, None, Option, ⊤}
 use Rattle.faults.specs.Faults.{Answer, found, refused, next, at_byte}
 use Rattle.leaf.specs.declared.bounds.Bounds.{Bounds}
 use Rattle.leaf.specs.Numbers.{has_bit}
@@ -21,6 +21,10 @@ pub data Plan (Role : Type 0) : Type 0 → Type 1 where
   either : {A : Type 0} → Bool → Plan Role A → Plan Role A → Plan Role A
   then : {A B : Type 0} → Plan Role A → (A → Plan Role B) → Plan Role B
 
+-- nothing
+abbrev pub nothing : {Role : Type 0} → Plan Role ⊤
+nothing = done tt
+
 -- a field alone
 abbrev pub field : {Role : Type 0} → Role → Plan Role ℕ
 field r = ask r (λ at n. done n)
@@ -35,10 +39,6 @@ abbrev pub all_numbers : {W : Type 0} → (W → List ℕ) → List W → List �
 all_numbers ns [] = []
 all_numbers ns (w ∷ ws) = ns w ++ all_numbers ns ws
 
--- a part that may be absent
-abbrev pub optional : {Role A : Type 0} → Bool → Plan Role A → Plan Role (Option A)
-optional present p = either present (then p (λ x. done (Some x))) (done None)
-
 -- of what may be absent: its numbers, and whether it fits
 abbrev pub numbers_if : {W : Type 0} → (W → List ℕ) → Option W → List ℕ
 numbers_if ns None = []
@@ -47,18 +47,6 @@ numbers_if ns (Some w) = ns w
 abbrev pub fits_if : {W : Type 0} → (W → Bool) → Option W → Bool
 fits_if f None = true
 fits_if f (Some w) = f w
-
--- of what is there exactly if it is to be: whether it fits, and what it makes
-abbrev pub is_that : Bool → Bool → Bool
-is_that true b = b
-is_that false b = not b
-
-abbrev pub optional_fits : {W : Type 0} → Bool → (W → Bool) → Option W → Bool
-optional_fits present f o = is_that present (is_some o) && fits_if f o
-
-abbrev pub optional_made : {W A : Type 0} → (W → A) → Option W → Option A
-optional_made a None = None
-optional_made a (Some w) = Some (a w)
 
 -- the bounds that the flags name: bit 0 minimum present, bit 1 maximum present, bit 2 minimum negative, bit 3 maximum negative; the minimum comes first
 abbrev pub bounds : {Role V : Type 0} → (Bool → Plan Role (Option V)) → ℕ → Plan Role (Bounds V)
@@ -123,3 +111,11 @@ module _ {Role : Type 0} (t : Table Role) where
         pub reached : Reached plan at q p
         pub size : ℕ
         pub stands : Written (drop p s) n size
+
+      -- what stands in one of the fields r, all before it being in order, does not fit; p is the byte that this names
+      abbrev pub UnfitIn : {I : Type 0} → (I → Role) → ℕ → Type 0
+      UnfitIn {I} r p = (i : I) × (place : ℕ) × (n : ℕ) × (p ≡ t.named (r i) place) × NumberDue (r i) place n × (t.fits (r i) n ≡ false)
+
+      -- the first byte does not fit as flags, and is named
+      abbrev pub UnfitFlags : Role → ℕ → Type 0
+      UnfitFlags flags p = (p ≡ at) × ((f : ℕ) × (drop at s ≡ f ∷ drop 1 (drop at s)) × (t.fits flags f ≡ false))

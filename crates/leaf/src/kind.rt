@@ -13,9 +13,9 @@ use faults::Fault;
 pub trait Leaf<V: Copy>: Copy {
     ghost kind: { Kind V Self };
 
-    /// A lawful leaf, whichever: a place to read into.
+    /// Some lawful leaf, to fill the places of a table with.
     fn blank() -> Self
-        ensures { Lawful kind result };
+        ensures { result ≡ kind.blank };
 
     // The order of the values.
     fn at_most(a: V, b: V) -> bool

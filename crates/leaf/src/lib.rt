@@ -12,5 +12,5 @@ pub use bounds::{Bounds, contains, includes};
 pub use faults::{Fault, Layer, Refusal};
 pub use kind::{Leaf, adjoins, admits, bounds_of, covers, no_later};
 pub use reader::Reader;
-pub use sheet::{has_flag, rest_of};
+pub use sheet::{are_flags, has_flag, rest_of};
 pub use written::WrittenBound;

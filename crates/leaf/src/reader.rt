@@ -1,7 +1,7 @@
 ghost use Rattle.std.specs.Prelude.{◌≡◌, ◌-◌, drop, length, min, OnErr};
 
 use crate::numbers::number;
-use crate::sheet::rest_of;
+use crate::sheet::{are_flags, rest_of};
 use faults::{Fault, Refusal};
 
 /// A sheet that is read part by part: the reader takes the first byte of what is left and goes on with the rest.
@@ -16,6 +16,7 @@ impl<'a> Reader<'a> {
     ghost use Rattle.leaf.specs.Encoding.{NumbersStand};
     ghost use Rattle.leaf.specs.Numbers.{number_at};
     ghost use Rattle.leaf.specs.Reading.{Reads, at_of, byte_at, sheet_of};
+    ghost use Rattle.leaf.specs.Windows.{flags_at};
 
     /// From a byte of the sheet on; with nothing left where `start` lies past its end.
     pub fn new(sheet: &'a [u8], start: usize) -> Reader<'a>
@@ -57,5 +58,17 @@ impl<'a> Reader<'a> {
         let (n, size) = number(self.rest, self.at(), self.sheet.len())?;
         self.rest = &self.rest[size..];
         Ok(n)
+    }
+
+    /// The flags of a leaf that stand here; refused 4 at that byte.
+    pub fn flags(&mut self, signed: bool) -> Result<u8, Fault>
+        ensures { Reads (flags_at signed) self.old self.new result }
+    {
+        let start = self.at();
+        let flags = self.byte()?;
+        if !are_flags(flags, signed) {
+            return Err(Fault::at(Refusal::UnknownByte, start));
+        }
+        Ok(flags)
     }
 }

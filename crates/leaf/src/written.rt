@@ -1,7 +1,7 @@
 ghost use Rattle.faults.specs.Faults.{Answer, told};
 ghost use Rattle.leaf.specs.Reading.{Reads};
 ghost use Rattle.leaf.specs.Tests.{WindowsJudged};
-ghost use Rattle.leaf.specs.Windows.{bound, bound_at, bounds_at, window_of};
+ghost use Rattle.leaf.specs.Windows.{bound, bound_if, head_at, window_of};
 ghost use Rattle.std.specs.Ordering.{partial_le};
 ghost use Rattle.std.specs.Prelude.{◌≡◌, ℕ, Bool, List, Option};
 
@@ -10,21 +10,27 @@ use crate::reader::Reader;
 use crate::sheet::has_flag;
 use faults::{Fault, Refusal};
 
-// A bound as written, which may be no value.
+/// A bound as written, which may be no value.
 pub trait WrittenBound: Copy {
     type Value: Copy + PartialOrd;
 
     ghost value_of: { Self → Option Self.Value };
 
-    ghost reading: { Bool → List ℕ → ℕ → Answer (Option Self.Value) };
+    ghost signed: { Bool };
 
-    // The value written, if it is one.
+    ghost bound_at: { Bool → List ℕ → ℕ → Answer (Option Self.Value) };
+
+    /// Whether its sign stands in the flags of a leaf on a sheet.
+    fn is_signed() -> bool
+        ensures { result ≡ signed };
+
+    /// The value written, if it is one.
     fn value(self) -> Option<Self::Value>
         ensures { result ≡ value_of self };
 
-    // The value of the bound that starts here, under the sign that the flags give it; refused at its first byte where it is none.
+    /// The value of the bound that starts here, under the sign that the flags give it; refused at its first byte where it is none.
     fn read(reader: &mut Reader<'_>, negative: bool) -> Result<Option<Self::Value>, Fault>
-        ensures { Reads (reading negative) reader.old reader.new result };
+        ensures { Reads (bound_at negative) reader.old reader.new result };
 }
 
 // The value of a bound as written.
@@ -42,7 +48,7 @@ fn read_bound<W: WrittenBound>(
     present: bool,
     negative: bool,
 ) -> Result<Option<W::Value>, Fault>
-    ensures { Reads (bound_at W.reading present negative) reader.old reader.new result }
+    ensures { Reads (bound_if W.bound_at present negative) reader.old reader.new result }
 {
     if present {
         W::read(reader, negative)
@@ -52,7 +58,8 @@ fn read_bound<W: WrittenBound>(
 }
 
 impl<V: Copy + PartialOrd> Bounds<V> {
-    // The window of bounds as written. Refused are, in this order and naming no byte: 7 a bound that is no value, 8 a minimum above the maximum.
+    /// The window of bounds as written. Refused are, in this order and naming no byte: 7 a bound that is no value, 8 a
+    /// minimum above the maximum.
     #[tactic(auto, using(crate::specs::Laws::Deciding::windows_judged))]
     pub fn of_written<W: WrittenBound<Value = V>>(
         minimum: Option<W>,
@@ -72,14 +79,11 @@ impl<V: Copy + PartialOrd> Bounds<V> {
         }
     }
 
-    // The bounds that the flags say are present, minimum first: bit 0 minimum present, bit 1 maximum present, bit 2 minimum negative, bit 3
-    // maximum negative.
-    pub fn read<W: WrittenBound<Value = V>>(
-        reader: &mut Reader<'_>,
-        flags: u8,
-    ) -> Result<Bounds<V>, Fault>
-        ensures { Reads (bounds_at W.reading flags) reader.old reader.new result }
+    /// The flags of a leaf, and the bounds that they say are present, minimum first.
+    pub fn read<W: WrittenBound<Value = V>>(reader: &mut Reader<'_>) -> Result<Bounds<V>, Fault>
+        ensures { Reads (head_at W.bound_at W.signed) reader.old reader.new result }
     {
+        let flags = reader.flags(W::is_signed())?;
         let minimum = read_bound::<W>(reader, has_flag(flags, 0), has_flag(flags, 2))?;
         let maximum = read_bound::<W>(reader, has_flag(flags, 1), has_flag(flags, 3))?;
         Ok(Bounds { minimum, maximum })

@@ -1,5 +1,5 @@
 -- What the fields of a list say.
-use Rattle.std.specs.Prelude.{◌≡◌, ℕ, true, false, List, [], ◌∷◌, ◌++◌, length, take, Some, None, Ok, Err, Option, Result}
+use Rattle.std.specs.Prelude.{◌≡◌, ℕ, true, false, List, [], ◌∷◌, ◌++◌, length, take, Some, None, Option, Result}
 use Rattle.faults.specs.declared.fault.Fault.{Fault}
 use Rattle.faults.specs.Faults.{Fills, Refused, shown}
 use Rattle.leaf.specs.Kind.{Kind, Lawful, before}
@@ -13,10 +13,6 @@ use Rattle.list.specs.declared.sheets.SheetAnswer.{SheetAnswer}
 abbrev pub stopped : Option Fault → Option Refused
 stopped None = None
 stopped (Some f) = Some (shown f)
-
-abbrev pub refused_with : {A : Type 0} → Result A Fault → Option Refused
-refused_with (Ok _) = None
-refused_with (Err f) = Some (shown f)
 
 -- the answer to a sheet: how many leaves it had accepted, the byte to go on from, and what stopped it
 pub record Tells {L : Type 0} (a : SheetAnswer) (o : Outcome L) : Type 0 where

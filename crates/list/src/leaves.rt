@@ -1,5 +1,6 @@
 ghost use Rattle.std.specs.Option.{is_some};
 ghost use Rattle.std.specs.Prelude.{◌≡◌, ◌≤◌, true, List, [], length, take, unwrap_or};
+ghost use Rattle.faults.specs.Faults.{refused_with};
 ghost use Rattle.leaf.specs.Kind.{Lawful};
 ghost use Rattle.list.specs.Lists.{All};
 ghost use Rattle.list.specs.Runs.Call.{admits? as call_admits, count as call_count, empty? as call_empty, insert as call_insert, line as call_line};
@@ -36,7 +37,7 @@ fn read_held<V: Copy, L: Leaf<V>>(held: &mut [L]) -> usize
 }
 
 impl<'a, V: Copy, L: Leaf<V>> Leaves<'a, V, L> {
-    ghost use Rattle.list.specs.Held.{FreePlacesUnseen, KeepsPromises, Leads, LeadsOn, PutsIn, SameTable, Settled, Sound, held_of, lines_of, places_of, refused_with, seen_of};
+    ghost use Rattle.list.specs.Held.{FreePlacesUnseen, KeepsPromises, Leads, LeadsOn, PutsIn, SameTable, Settled, Sound, held_of, lines_of, places_of, seen_of};
 
     /// A list that holds no leaf: whatever the table has in it, all its places are free.
     pub fn open(table: &'a mut [L]) -> Leaves<'a, V, L>

@@ -4,7 +4,7 @@ ghost use Rattle.std.specs.Prelude.{◌≡◌};
 use leaf::Fault;
 use std::alloc::AllocError;
 
-// Why a line has no answer: its leaf was refused, its text is of another form, or memory ran out.
+// Why a line has no answer: what it writes was refused, its text is of another form, or memory ran out.
 #[derive(Drop)]
 pub enum Objection<M> {
     Refused(Fault),

@@ -1,9 +1,7 @@
 -- A kind at days without a day: what each part means goes by the kind below.
-use Rattle.std.specs.Prelude.{ℕ, ◌-◌, ◌^◌, Bool, true, false, cond, not, ◌&&◌, List, Some, None, Option, ◌==◌, nat_le, nat_lt}
-use Rattle.faults.specs.Faults.{Answer, found, refused, at_byte, next}
+use Rattle.std.specs.Prelude.{ℕ, Bool, true, false, cond, not, ◌&&◌, Some, None, Option, ⊤, ◌==◌, nat_le}
 use Rattle.leaf.specs.Kind.{Kind, ext_le, from}
-use Rattle.leaf.specs.Numbers.{number_at}
-use Rattle.spans.specs.declared.closed.Closing.{Closing}
+use Rattle.leaf.specs.Layouts.{no_layout}
 use Rattle.spans.specs.declared.closed.Closed.{Closed}
 
 abbrev pub is_shut : Option ℕ → ℕ → Bool
@@ -18,11 +16,6 @@ part_of (Some d) c = is_shut c d
 -- the order of pairs, from the orders of their parts: r and r' say how the first parts stand, s how the second do
 abbrev pub pair_le : Bool → Bool → Bool → Bool
 pair_le r r' s = cond r (cond r' s true) false
-
--- 0 for none, else the day and one more
-abbrev pub closing_at : List ℕ → ℕ → Answer Closing
-closing_at s at = next (number_at s at) (λ n e.
-    cond (n == 0) (found (record { day = None }) e) (cond (nat_lt (n - 1) (2 ^ 32)) (found (record { day = Some (n - 1) }) e) (refused (at_byte 7 at))))
 
 -- the next day below, or the one after it where that is the day left out
 abbrev pub open_next : (ℕ → Option ℕ) → Option ℕ → Option ℕ → Option ℕ
@@ -46,7 +39,11 @@ closed k = record {
   rule_admits = λ a v. not (is_shut a.closing.day v) && k.rule_admits a.below v;
   next_on_grid = λ a v. open_next (k.next_on_grid a.below) a.closing.day (k.next_on_grid a.below v);
   rule_covers = λ a b. part_of a.closing.day b.closing.day && k.rule_covers a.below b.below;
+  blank = closed_on k.blank None;
   join = λ a b. record { below = k.join a.below b.below; closing = a.closing };
-  kind_byte = k.kind_byte;
-  reading = λ s i. next (k.reading s i) (λ x m. next (closing_at s m) (λ c e. found (record { below = x; closing = c }) e));
+  kind_byte = λ b. false;
+  Role = ⊤;
+  Written = ⊥;
+  Made = ⊤;
+  layout = λ b. no_layout (closed_on k.blank None);
 }

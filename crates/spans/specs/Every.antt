@@ -1,15 +1,17 @@
 -- Windows of every day show the laws of a kind.
-use Rattle.std.specs.Prelude.{◌≡◌, ℕ, ◌+◌, ◌^◌, ◌<◌, ◌≤◌, true, false, ◌&&◌, leb, List, length, Some, None, Option, nat_le, min, refl}
+use Rattle.std.specs.Prelude.{◌≡◌, ℕ, ◌+◌, ◌^◌, ◌≤◌, Bool, true, false, ◌&&◌, leb, [], ◌∷◌, Some, None, Option, ⊤, nat_le, refl}
 use Rattle.std.proofs.Common.{sym, ap, ◌∙◌, arith}
 use Rattle.std.proofs.lemmas.Bool.{and_from, cond_both, le-leb, leb-false, leb-true, lt-leb, ltb-false, ltb-true}
-use Rattle.faults.specs.Faults.{Answer, found, refused, at_byte}
-use Rattle.leaf.specs.Kind.{Joins, Laws, Lawful, WellRead, is_value_window, ext_le, from, upto}
+use Rattle.leaf.specs.Kind.{Joins, Laws, Lawful, is_value_window, is_window_of, ext_le, from, upto}
+use Rattle.leaf.specs.Layouts.{LayoutLaws, is_of_field, is_written_window, written_leaf}
+use Rattle.leaf.specs.Windows.{written}
+use Rattle.leaf.specs.Headed.{WrittenLeaf}
+use Rattle.leaf.specs.Laws.Flags.{unsigned}
+use Rattle.leaf.specs.Laws.Headed.{HeadedLaws, fitting, headed_laws}
 use Rattle.leaf.specs.Laws.Hulls.{hull_window, joins_hull}
-use Rattle.leaf.specs.Laws.Starts.{from_end, number_past}
+use Rattle.leaf.specs.Laws.Parts.{Part, no_part}
 use Rattle.spans.specs.declared.span.Span.{Span}
-use Rattle.leaf.specs.Numbers.{number_at}
-use Rattle.leaf.specs.Laws.Chains.{ends_found, next_both, number_ends}
-use Rattle.spans.specs.Spans.{day_at, following, is_bound, is_day, span_at, spans, window}
+use Rattle.spans.specs.Spans.{Role, flags, day, day_plan, following, is_bound, is_day, span_fields, span_layout, span_table, spans}
 
 same_window : (x y : Option ℕ) → (is_bound x && (is_bound y && ext_le leb (from x) (upto y))) ≡ is_value_window spans x y
 same_window None None = refl
@@ -36,31 +38,43 @@ least v w u e h = let k = (next_some v w e).0 in le-leb w u (omega (arith, leb-f
 none : (v u : ℕ) → following v ≡ None → is_day u ≡ true → nat_le u v ≡ true
 none v u e g = le-leb u v (omega (arith, next_no v e, ltb-true u (2 ^ 32) g))
 
--- a day read is a day, and ends past its start
-abbrev pub Day : List ℕ → ℕ → Answer ℕ → Type 0
-Day s i (found n e) = (is_day n ≡ true) × (i < e) × (e ≤ length s)
-Day s i (refused r) = Unit {0}
+-- the layout: a day is a number
+days : (negative : Bool) → Part span_table (day_plan negative) (λ n. n ∷ []) is_day (λ n. Some n)
+days negative = record {
+  stood = λ s at o end (n, size, w, (e, h)). (n, w.fits, e, (size, w.stands, h));
+  makes = λ s at n end f (size, w, h). (n, size, record { stands = w; fits = f }, (refl, h));
+  below = λ n f. (omega (arith, ltb-true n (2 ^ 32) f), tt);
+}
 
-day_read : (s : List ℕ) (i : ℕ) → Day s i (day_at s i)
-day_read s i =
-    next_both (number_at s i) _ (Day s i) (λ _. tt) (λ n e p.
-    let a = ends_found s i (number_at s i) n e (number_ends s i) p in
-    cond_both (is_day n) (found n e) (refused (at_byte 7 i)) (Day s i) (λ t. (t, a.0, a.1)) (λ _. tt))
+own : (r : Role) → is_of_field (span_table.refusal r) ≡ true
+own flags = refl
+own day = refl
 
-day_found : (s : List ℕ) (i n e : ℕ) → day_at s i ≡ found n e → (is_day n ≡ true) × (i < e) × (e ≤ length s)
-day_found s i n e p = go (day_at s i) p (day_read s i)
-  where
-    go : (a : Answer ℕ) → a ≡ found n e → Day s i a → (is_day n ≡ true) × (i < e) × (e ≤ length s)
-    go a q d = rw q at d
+field_laws : HeadedLaws span_fields (λ _. is_day)
+field_laws = record {
+  own = own;
+  shape = refl;
+  flag = unsigned span_fields (λ f. refl) (λ low high. refl);
+  bounds = days;
+  rest = no_part span_table;
+  valued = λ n h. (n, refl);
+  same_bound = λ n m h g e. let q : n ≡ m = cc in q;
+  same_rest = λ r s h g e. refl;
+}
 
-span_read : (s : List ℕ) (i : ℕ) → WellRead spans s i (span_at s i)
-span_read s i =
-    next_both (day_at s i) _ (WellRead spans s i) (λ _. tt) (λ low m p.
-    next_both (day_at s m) _ (WellRead spans s i) (λ _. tt) (λ high e q.
-    let a = day_found s i low m p in
-    let b = day_found s m high e q in
-    cond_both (nat_le low high) (found (window (Some low) (Some high)) e) (refused (at_byte 8 i)) (WellRead spans s i)
-    (λ t. (and_from (is_day low) (is_day high && nat_le low high) a.0 (and_from (is_day high) (nat_le low high) b.0 t), omega arith, b.2)) (λ _. tt)))
+layout_laws : LayoutLaws span_layout
+layout_laws = headed_laws span_fields field_laws (is_window_of leb) (λ bounds r. record { bounds = bounds })
+
+bounded : (o : Option ℕ) → is_bound o ≡ true → is_bound (written (λ n. Some n) o) ≡ true
+bounded None h = h
+bounded (Some n) h = h
+
+written_lawful : (w : WrittenLeaf ℕ ⊤) → span_layout.fits w ≡ true → is_written_window span_layout w ≡ true → Lawful spans (written_leaf span_layout w)
+written_lawful w f t =
+    let (a, b, c) = fitting span_fields field_laws w f in
+    let x = written (λ n. Some n) w.low in
+    let y = written (λ n. Some n) w.high in
+    and_from (is_bound x) (is_bound y && ext_le leb (from x) (upto y)) (bounded w.low a) (and_from (is_bound y) (ext_le leb (from x) (upto y)) (bounded w.high b) t)
 
 total : (a b : ℕ) → nat_le a b ≡ false → nat_le b a ≡ true
 total a b h = le-leb b a (omega (arith, leb-false a b h))
@@ -75,13 +89,6 @@ joined a b p q =
     joins_hull spans total trans a b (spans.join a b)
     (same_window (spans.join a b).bounds.minimum (spans.join a b).bounds.maximum ∙ hull_window spans total trans a.bounds.minimum a.bounds.maximum b.bounds.minimum b.bounds.maximum x y)
     refl refl refl
-
--- a span that would start past the end
-span_past : (s : List ℕ) (i : ℕ) → length s ≤ i → span_at s i ≡ refused (at_byte 2 (length s))
-span_past s i h = rw (number_past s i h) refl
-
-pub span_from_end : (s : List ℕ) (i : ℕ) → span_at s (min i (length s)) ≡ span_at s i
-span_from_end = from_end span_at span_past
 
 pub spans_laws : Laws spans
 spans_laws = record {
@@ -102,10 +109,12 @@ spans_laws = record {
   next_grid = λ a v w p q e. above v w e;
   next_least = λ a v w u p q e g h. least v w u e h;
   next_none = λ a v u p q e g. none v u e g;
+  blank_lawful = refl;
   joins = λ a b p q. joined a b p q;
   covers_refl = λ a b p q s. refl;
   covers_trans = λ a b c p q r h i. refl;
   covers_anti = λ a b p q h i. refl;
   covers_admits = λ a b v p q h i. i;
-  well_read = span_read;
+  layouts = λ b. layout_laws;
+  written_lawful = λ b. written_lawful;
 }

@@ -1,14 +1,11 @@
 -- A kind without a day shows the laws that the kind below shows.
-use Rattle.std.specs.Prelude.{◌≡◌, ℕ, ◌-◌, ◌^◌, Bool, true, false, cond, not, ◌&&◌, ◌⊎◌, List, Some, None, Option, ◌==◌, ◌≢◌, nat_le, nat_lt, refl}
+use Rattle.std.specs.Prelude.{◌≡◌, ℕ, Bool, true, false, not, ◌&&◌, ◌⊎◌, Some, None, Option, ◌≢◌, nat_le, refl}
 use Rattle.std.proofs.Common.{sym, ap, subst, ◌∙◌, inl, inr, arith}
 use Rattle.std.proofs.lemmas.Bool.{and_from, and_parts, both_ways, cases_Bool, cond_both, eq-eqb, eqb-true, le-leb, leb-false, leb-true, true≢false, false≢true}
-use Rattle.faults.specs.Faults.{found, refused, at_byte}
-use Rattle.leaf.specs.Kind.{Kind, Laws, Lawful, WellRead, ext_le, from, same_rule}
-use Rattle.leaf.specs.Numbers.{number_at}
-use Rattle.leaf.specs.Laws.Chains.{Ends, ends_found, next_both, number_ends}
-use Rattle.spans.specs.declared.closed.Closing.{Closing}
+use Rattle.leaf.specs.Kind.{Kind, Laws, Lawful, ext_le, from, same_rule}
+use Rattle.leaf.specs.Laws.Judging.{no_layout_laws}
 use Rattle.spans.specs.declared.closed.Closed.{Closed}
-use Rattle.spans.specs.Closed.{closed, closing_at, is_shut, open_next, pair_le, part_of}
+use Rattle.spans.specs.Closed.{closed, closed_on, is_shut, open_next, pair_le, part_of}
 use Rattle.spans.specs.Pairs.{pair_from, pair_parts, pair_tie, pair_total}
 
 abbrev day_le : Option ℕ → Option ℕ → Bool
@@ -174,22 +171,6 @@ module _ {L : Type 0} (k : Kind ℕ L) (laws : Laws k) where
         upto s b (inl t) = t
         upto s b (inr f) = absurd (both_ways (k.le u w) (past x c v w u p q d s o g f) b)
 
-  -- the reader: a closing ends past its start
-  closing_ends : (s : List ℕ) (i : ℕ) → Ends s i (closing_at s i)
-  closing_ends s i =
-      next_both (number_at s i) _ (Ends s i) (λ _. tt) (λ n e p.
-      let a = ends_found s i (number_at s i) n e (number_ends s i) p in
-      cond_both (n == 0) (found (record { day = None }) e) (cond (nat_lt (n - 1) (2 ^ 32)) (found (record { day = Some (n - 1) }) e) (refused (at_byte 7 i))) (Ends {A = Closing} s i) (λ _. a)
-      (λ _. cond_both (nat_lt (n - 1) (2 ^ 32)) (found (record { day = Some (n - 1) }) e) (refused (at_byte 7 i)) (Ends {A = Closing} s i) (λ _. a) (λ _. tt)))
-
-  well_read : (s : List ℕ) (i : ℕ) → WellRead (closed k) s i ((closed k).reading s i)
-  well_read s i =
-      next_both (k.reading s i) _ (WellRead (closed k) s i) (λ _. tt) (λ x m p.
-      let a = subst (WellRead k s i) p (laws.well_read s i) in
-      next_both (closing_at s m) _ (WellRead (closed k) s i) (λ _. tt) (λ c e q.
-      let b = ends_found s m (closing_at s m) c e (closing_ends s m) q in
-      (a.0, omega arith, b.1)))
-
   pub closed_laws : Laws (closed k)
   closed_laws = record {
     le_total = laws.le_total;
@@ -223,6 +204,7 @@ module _ {L : Type 0} (k : Kind ℕ L) (laws : Laws k) where
     next_grid = λ a v w p q e. next_grid a.below a.closing.day p v w q (k.next_on_grid a.below v) refl e;
     next_least = λ a v w u p q e g h. let o = opened a.closing.day a.below u g in next_least a.below a.closing.day p v w u q o.0 o.1 h (k.next_on_grid a.below v) refl e;
     next_none = λ a v u p q e g. let o = opened a.closing.day a.below u g in next_none a.below a.closing.day p v u q o.0 o.1 (k.next_on_grid a.below v) refl e;
+    blank_lawful = laws.blank_lawful;
     joins = λ a b p q.
         let j = laws.joins a.below b.below p q in
         record { lawful = j.lawful; rule = tied a ((closed k).join a b) j.rule refl; minimum = j.minimum; maximum = j.maximum };
@@ -241,5 +223,6 @@ module _ {L : Type 0} (k : Kind ℕ L) (laws : Laws k) where
         let s = and_parts (part_of a.closing.day b.closing.day) (k.rule_covers a.below b.below) h in
         let o = and_parts (not (is_shut b.closing.day v)) (k.rule_admits b.below v) i in
         and_from (not (is_shut a.closing.day v)) (k.rule_admits a.below v) (part_open a.closing.day b.closing.day v s.0 o.0) (laws.covers_admits a.below b.below v p q s.1 o.1);
-    well_read = well_read;
+    layouts = λ b. no_layout_laws (closed_on k.blank None);
+    written_lawful = λ b w f t. absurd w;
   }

@@ -1,6 +1,5 @@
 ghost use Rattle.leaf.specs.Kind.{Lawful, ext_le, from};
-ghost use Rattle.leaf.specs.Reading.{Reads};
-ghost use Rattle.spans.specs.Closed.{closed, closed_on, closing_at, is_shut, part_of};
+ghost use Rattle.spans.specs.Closed.{closed, closed_on, is_shut, part_of};
 ghost use Rattle.std.specs.Prelude.{◌≡◌, nat_le};
 ghost use Rattle.spans.specs.Without.{closed_laws};
 
@@ -53,22 +52,7 @@ impl Closing {
     }
 }
 
-// A closing on a sheet is 0 for none, else its day and one more.
-fn read_closing(reader: &mut Reader<'_>) -> Result<Closing, Fault>
-    ensures { Reads closing_at reader.old reader.new result }
-{
-    let start = reader.at();
-    let n = reader.number()?;
-    if n == 0 {
-        return Ok(Closing { day: None });
-    }
-    match u32::try_from(n - 1) {
-        Ok(day) => Ok(Closing { day: Some(day) }),
-        Err(_) => Err(Fault::at(Refusal::OutOfRange, start)),
-    }
-}
-
-// Leaves without a day are a kind, whatever the kind below. On a sheet a leaf is the one below and its closing.
+// Leaves without a day are a kind, whatever the kind below. None stands on a sheet.
 impl<L: Leaf<u32>> Leaf<u32> for Closed<L> {
     ghost kind = { closed L.Leaf.kind };
 
@@ -123,17 +107,14 @@ impl<L: Leaf<u32>> Leaf<u32> for Closed<L> {
         }
     }
 
-    fn is_kind(b: u8) -> bool {
-        L::is_kind(b)
+    fn is_kind(_b: u8) -> bool {
+        false
     }
 
-    fn read(sheet: &[u8], start: usize, place: &mut Closed<L>) -> Result<usize, Fault> {
-        let mut below = L::blank();
-        let at = L::read(sheet, start, &mut below)?;
-        let mut reader = Reader::new(sheet, at);
-        let closing = read_closing(&mut reader)?;
-        *place = Closed { below, closing };
-        Ok(reader.at())
+    fn read_fields(reader: &mut Reader<'_>, _place: &mut Closed<L>) -> Result<(), Fault> {
+        let start = reader.at();
+        reader.byte()?;
+        Err(Fault::at(Refusal::UnknownByte, start))
     }
 
     ghost lawfully = { closed_laws L.Leaf.kind L.Leaf.lawfully };

@@ -1,11 +1,13 @@
 ghost use Rattle.faults.specs.Faults.{told};
 ghost use Rattle.leaf.specs.Kind.{Lawful};
 ghost use Rattle.leaf.specs.Reading.{Reads};
-ghost use Rattle.spans.specs.Spans.{day_at, made_of, span_at, spans};
-ghost use Rattle.std.specs.Prelude.{◌≡◌, IfOk};
+ghost use Rattle.leaf.specs.Layouts.{leaf_under};
+ghost use Rattle.leaf.specs.Plans.{made_at};
+ghost use Rattle.spans.specs.Spans.{day_plan, made_of, span_layout, span_table, spans};
+ghost use Rattle.std.specs.Prelude.{◌≡◌, false, IfOk, Some};
 ghost use Rattle.spans.specs.Every.{spans_laws};
 
-use leaf::{Bounds, Fault, Leaf, Reader, Refusal};
+use leaf::{Bounds, Fault, Leaf, Reader, Refusal, WrittenBound};
 
 // The first byte of a sheet of spans.
 const KIND: u8 = 0x53;
@@ -30,34 +32,50 @@ impl Span {
     }
 }
 
-// A day on a sheet is its number, below 2^32.
-fn read_day(reader: &mut Reader<'_>) -> Result<u32, Fault>
-    ensures { Reads day_at reader.old reader.new result }
-{
-    let start = reader.at();
-    let n = reader.number()?;
-    u32::try_from(n).map_err(|_| Fault::at(Refusal::OutOfRange, start))
+// A day as written on a sheet: its number, below 2^32.
+#[derive(Clone, Copy)]
+struct DayNumber(u32);
+
+impl WrittenBound for DayNumber {
+    type Value = u32;
+
+    ghost value_of = { λ d. Some d.0 };
+
+    ghost signed = { false };
+
+    ghost bound_at = { λ negative. made_at span_table (day_plan negative) };
+
+    fn is_signed() -> bool {
+        false
+    }
+
+    fn value(self) -> Option<u32> {
+        Some(self.0)
+    }
+
+    fn read(reader: &mut Reader<'_>, _negative: bool) -> Result<Option<u32>, Fault> {
+        let start = reader.at();
+        let n = reader.number()?;
+        match u32::try_from(n) {
+            Ok(day) => Ok(Some(day)),
+            Err(_) => Err(Fault::at(Refusal::OutOfRange, start)),
+        }
+    }
 }
 
-// The minimum and the maximum, which are judged last.
+// The span whose flags stand here.
 fn read_span(reader: &mut Reader<'_>) -> Result<Span, Fault>
-    ensures { Reads span_at reader.old reader.new result }
+    ensures { Reads (leaf_under span_layout) reader.old reader.new result }
 {
     let start = reader.at();
-    let low = read_day(reader)?;
-    let high = read_day(reader)?;
-    if low > high {
+    let bounds = Bounds::read::<DayNumber>(reader)?;
+    if !bounds.is_window() {
         return Err(Fault::at(Refusal::MinAboveMax, start));
     }
-    Ok(Span {
-        bounds: Bounds {
-            minimum: Some(low),
-            maximum: Some(high),
-        },
-    })
+    Ok(Span { bounds })
 }
 
-// Windows of every day are a kind. On a sheet a leaf is its minimum and its maximum.
+// Windows of every day are a kind. On a sheet a leaf is its flags and the days that they name.
 impl Leaf<u32> for Span {
     ghost kind = { spans };
 
@@ -112,11 +130,9 @@ impl Leaf<u32> for Span {
         b == KIND
     }
 
-    #[tactic(auto, using(crate::specs::Every::span_from_end))]
-    fn read(sheet: &[u8], start: usize, place: &mut Span) -> Result<usize, Fault> {
-        let mut reader = Reader::new(sheet, start);
-        *place = read_span(&mut reader)?;
-        Ok(reader.at())
+    fn read_fields(reader: &mut Reader<'_>, place: &mut Span) -> Result<(), Fault> {
+        *place = read_span(reader)?;
+        Ok(())
     }
 
     ghost lawfully = { spans_laws };

@@ -1,11 +1,10 @@
 -- Fields and bounds that a plan makes, as they stand in a row of numbers.
-use Rattle.std.specs.Prelude.{◌≡◌, ℕ, ◌+◌, Bool, true, false, List, [], ◌∷◌, drop, None, Option, refl}
+use Rattle.std.specs.Prelude.{◌≡◌, ℕ, ◌+◌, Bool, true, false, ◌↔◌, List, [], ◌∷◌, drop, None, Option, refl}
 use Rattle.std.proofs.Common.{sym, ap, subst, ◌∙◌, inl, inr, arith}
 use Rattle.leaf.specs.declared.bounds.Bounds.{Bounds}
 use Rattle.leaf.specs.Fields.{byte, number, Stands}
-use Rattle.leaf.specs.Encoding.{Written}
 use Rattle.leaf.specs.Numbers.{has_bit}
-use Rattle.leaf.specs.Plans.{Table, Plan, done, ask, either, then, field, head, bounds, Makes, Reached, Unfit, NumberDue}
+use Rattle.leaf.specs.Plans.{Table, Plan, done, ask, either, then, field, head, bounds, Makes, Reached, Unfit, UnfitFlags, UnfitIn}
 use Rattle.leaf.specs.Layouts.{StandInTurn}
 
 module _ {Role : Type 0} (t : Table Role) (s : List ℕ) where
@@ -65,10 +64,47 @@ module _ {Role : Type 0} (t : Table Role) where
     only_first f bound k at q p h g e (inl (inr (x, mid, l, m))) = absurd (byte_number (sym e ∙ numbered_reached (bounds bound x) mid q p (numbered_bounds bound x h) m))
     only_first f bound k at q p h g e (inr (x, mid, l, m)) = absurd (byte_number (sym e ∙ numbered_reached (k x) mid q p (g x) m))
 
--- a field that is due, and what does not fit in it
+-- which fields give a refusal
 module _ {Role A : Type 0} (t : Table Role) (s : List ℕ) (plan : Plan Role A) (at : ℕ) where
-  pub due_at : (q : Role) (p place n size : ℕ) → p ≡ place → Reached t s plan at q place → Written (drop place s) n size → NumberDue t s plan at q p n
-  due_at q p place n size e r w = record { reached = subst (Reached t s plan at q) (sym e) r; size = size; stands = subst (λ (z : ℕ). Written (drop z s) n size) (sym e) w }
-
-  pub unfit_at : (q : Role) (p n size : ℕ) → Reached t s plan at q p → Stands (t.shape q) (drop p s) n size → t.fits q n ≡ false → Unfit t s plan at (t.refusal q) (t.named q p)
+  unfit_at : (q : Role) (p n size : ℕ) → Reached t s plan at q p → Stands (t.shape q) (drop p s) n size → t.fits q n ≡ false → Unfit t s plan at (t.refusal q) (t.named q p)
   unfit_at q p n size r w u = record { field = q; place = p; value = n; size = size; reached = r; stands = w; unfit = u; refusal_is = refl; named_is = refl }
+
+  -- numbers that do not fit in the fields r, where no other field gives the refusal
+  pub unfit_in : {I : Type 0} (r : I → Role) (m : ℕ) → ((i : I) → m ≡ t.refusal (r i)) → ((i : I) → t.shape (r i) ≡ number) →
+      ((q : Role) (n : ℕ) → m ≡ t.refusal q → t.fits q n ≡ false → (i : I) × (q ≡ r i)) → (p : ℕ) → Unfit t s plan at m p ↔ UnfitIn t s plan at r p
+  unfit_in r m own numbers only p = (
+    (λ u.
+        let (i, e) = only u.field u.value u.refusal_is u.unfit in (
+          i,
+          u.place,
+          u.value,
+          u.named_is ∙ ap (λ q. t.named q u.place) e,
+          record {
+            reached = subst (λ q. Reached t s plan at q u.place) e u.reached;
+            size = u.size;
+            stands = subst (λ h. Stands h (drop u.place s) u.value u.size) (ap t.shape e ∙ numbers i) u.stands;
+          },
+          sym (ap (λ q. t.fits q u.value) e) ∙ u.unfit,
+        )),
+    (λ (i, place, n, e, d, f).
+        subst (λ z. Unfit t s plan at z p) (sym (own i))
+        (subst (Unfit t s plan at (t.refusal (r i))) (sym e) (unfit_at (r i) place n d.size d.reached (subst (λ h. Stands h (drop place s) n d.size) (sym (numbers i)) d.stands) f))),
+  )
+
+-- the same of the flags, which are due at the leaf's first byte alone
+module _ {Role A V : Type 0} (t : Table Role) (s : List ℕ) (flags : Role) (bound : Bool → Plan Role (Option V)) (k : Bounds V → Plan Role A) (at : ℕ) where
+  pub unfit_flags : (m : ℕ) → m ≡ t.refusal flags → t.shape flags ≡ byte → t.named flags at ≡ at → ((n : Bool) → Numbered t (bound n)) → ((b : Bounds V) → Numbered t (k b)) →
+      ((q : Role) → m ≡ t.refusal q → q ≡ flags) → (p : ℕ) → Unfit t s (then (head flags bound) k) at m p ↔ UnfitFlags t s (then (head flags bound) k) at flags p
+  unfit_flags m own shape named h g only p = (
+    (λ u.
+        let e = only u.field u.refusal_is in
+        let d = only_first t s flags bound k at u.field u.place h g (ap t.shape e ∙ shape) u.reached in
+        let w = subst (λ z. Stands z (drop u.place s) u.value u.size) (ap t.shape e ∙ shape) u.stands in (
+          u.named_is ∙ ((λ i. t.named (e i) (d i)) ∙ named),
+          (u.value, subst (λ z. drop z s ≡ u.value ∷ drop 1 (drop z s)) d w.0, sym (ap (λ q. t.fits q u.value) e) ∙ u.unfit),
+        )),
+    (λ (e, (f, d, u)).
+        subst (λ z. Unfit t s (then (head flags bound) k) at z p) (sym own)
+        (subst (Unfit t s (then (head flags bound) k) at (t.refusal flags)) (named ∙ sym e)
+        (unfit_at t s (then (head flags bound) k) at flags at f 1 (inl (inl (inl (refl, refl)))) (subst (λ z. Stands z (drop at s) f 1) (sym shape) (d, refl)) u))),
+  )

@@ -7,9 +7,10 @@ use Rattle.leaf.specs.Encoding.{Bytes}
 use Rattle.leaf.specs.Kind.{Kind, Laws, first_of, Lawful, layout_of, leaf_at}
 use Rattle.leaf.specs.Grammar.{AnswersStand, LeafGrammar, WellRead}
 use Rattle.leaf.specs.Plans.{made_at, Makes, Reached, EndsEarly, BadNumber, Unfit}
-use Rattle.leaf.specs.Layouts.{AreLeafNumbers, Layout, LayoutLaws, LeafJudged, LeafStands, OneAnswer, StandAsLeaf, StandInTurn, bytes_of, is_of_field, is_written_window, leaf_under, written_leaf}
+use Rattle.leaf.specs.Layouts.{Layout, LayoutLaws, LeafJudged, LeafStands, OneAnswer, StandAsLeaf, StandInTurn, bytes_of, is_of_field, is_written_window, leaf_under, no_layout, written_leaf}
 use Rattle.leaf.specs.Laws.Writing.{found_refused}
 use Rattle.leaf.specs.Laws.Rows.{row_leaf, leaf_row, drop_front, written_within}
+use Rattle.leaf.specs.Laws.Starts.{byte_past}
 use Rattle.leaf.specs.Laws.Runs.{Halts, early, bad, unfit, Says, answers, says}
 
 module _ {Role W M L : Type 0} (y : Layout Role W M L) where
@@ -224,3 +225,14 @@ module _ {V L : Type 0} (k : Kind V L) (laws : Laws k) where
           (λ t. subst (WellRead k s at) (sym (cond-true (y.is_window m) (found (y.leaf m) e) (refused (at_byte 8 at)) t)) (subst (Lawful k) (ap y.leaf i) (laws.written_lawful (first_of s) w f (ap y.is_window i ∙ t)), l, r))
           (λ t. subst (WellRead k s at) (sym (cond-false (y.is_window m) (found (y.leaf m) e) (refused (at_byte 8 at)) t)) tt)
           (cases_Bool (y.is_window m))
+
+-- of a kind without sheets
+pub no_layout_laws : {L : Type 0} (blank : L) → LayoutLaws (no_layout blank)
+no_layout_laws blank = record {
+  own = λ r. refl;
+  below = λ w f. absurd w;
+  stood = λ s at m end (n, size, w, h). absurd (true≢false (sym w.fits));
+  makes = λ s at w end f r. absurd w;
+  past = λ s at h. rw (byte_past s at h) refl;
+  same = λ w v f g e. absurd w;
+}

@@ -1,6 +1,6 @@
 use Rattle.std.proofs.Common.{ap, ◌∙◌}
 use Rattle.divisors.specs.Written.{refusal_of}
-use Rattle.amounts.specs.Read.{lists_taken}
+use Rattle.amounts.specs.Laws.Layout.{lists_taken}
 use Rattle.amounts.proofs.reader.read_leaf.Goals as goal
 
 pub leaf_of-requires-clause-required : goal.leaf_of-requires-clause-required

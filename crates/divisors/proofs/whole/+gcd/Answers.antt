@@ -1,6 +1,6 @@
 use Rattle.std.proofs.Common.{◌≡◌, ℕ, ◌<◌, sym, ap, ◌∙◌, subst, arith, rules}
 use Rattle.divisors.specs.Whole.{IsGcd, gcd_of}
-use Rattle.divisors.proofs.Gcds.{gcd_is, gcd_one, gcd_step, gcd_zero}
+use Rattle.divisors.specs.Lemmas.Gcds.{gcd_is, gcd_one, gcd_step, gcd_zero}
 use Rattle.divisors.proofs.whole.+gcd.Goals as goal
 
 by_value : (a b r : ℕ) → r ≡ gcd_of a b → record { value : r ≡ gcd_of a b; greatest : IsGcd a b r }

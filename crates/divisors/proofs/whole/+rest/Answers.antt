@@ -1,8 +1,8 @@
 use Rattle.std.proofs.Common.{◌≡◌, ℕ, ◌/◌, ◌<◌, sym, ap, ◌∙◌, subst, arith}
 use Rattle.divisors.specs.Shared.{rest_of}
 use Rattle.divisors.specs.Whole.{gcd_of}
-use Rattle.divisors.proofs.Gcds.{gcd_pos}
-use Rattle.divisors.proofs.Primes.{rest_end, rest_more, rest_less as falls}
+use Rattle.divisors.specs.Lemmas.Gcds.{gcd_pos}
+use Rattle.divisors.specs.Lemmas.Primes.{rest_end, rest_more, rest_less as falls}
 use Rattle.divisors.proofs.whole.+rest.Goals as goal
 
 -- the gcd in hand is not 1

@@ -1,6 +1,6 @@
 use Rattle.std.proofs.Common.{◌≡◌, ℕ, ◌*◌, ◌/◌, sym, ap, ◌∙◌, arith}
 use Rattle.divisors.specs.Whole.{gcd_of, lcm_of}
-use Rattle.divisors.proofs.Gcds.{gcd_pos, lcm_is, lcm_zero, capped, fits, fits_not}
+use Rattle.divisors.specs.Lemmas.Gcds.{gcd_pos, lcm_is, lcm_zero, capped, fits, fits_not}
 use Rattle.divisors.proofs.whole.lcm.Goals as goal
 
 pub returns-then-a-eq0 : goal.returns-then-a-eq0

@@ -1,6 +1,6 @@
 use Rattle.std.proofs.Common.{◌≡◌, ℕ, ◌/◌, ◌<◌, sym, ap, subst, inl, inr}
 use Rattle.divisors.specs.Shared.{rest_of, shared_of}
-use Rattle.divisors.proofs.Primes.{shared_is, shared_pos, rest_pos, strip_none, strip_some}
+use Rattle.divisors.specs.Lemmas.Primes.{shared_is, shared_pos, rest_pos, strip_none, strip_some}
 use Rattle.divisors.proofs.whole.stripped.Goals as goal
 use Rattle.divisors.proofs.whole.stripped.Goals.{else-shared-ne1-via-then-shared-ne1+else-b-shared-eq0, else-shared-ne1-via-else-shared-ne1}
 

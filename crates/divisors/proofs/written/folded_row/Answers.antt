@@ -5,8 +5,8 @@ use Rattle.divisors.specs.Folding.{FoldsTo}
 use Rattle.divisors.specs.Rows.{fractions, held, padded}
 use Rattle.divisors.specs.Settled.{settled}
 use Rattle.divisors.specs.Written.{over_integers}
-use Rattle.divisors.proofs.Lawful.{worked_folds}
-use Rattle.divisors.proofs.Makes.{fold_of_lem, fold_settles}
+use Rattle.divisors.specs.Lawful.{worked_folds}
+use Rattle.divisors.specs.Lemmas.Makes.{fold_of_lem, fold_settles}
 use Rattle.divisors.proofs.Single.{folds_short, one_item}
 use Rattle.divisors.proofs.written.folded_row.Goals as goal
 

@@ -2,7 +2,7 @@ use Rattle.std.proofs.Common.{◌≡◌, sym, ap, ◌∙◌, arith}
 use Rattle.std.proofs.lemmas.Bool.{and_from}
 use Rattle.divisors.specs.Dividing.{thinned, thin_of}
 use Rattle.divisors.specs.Rows.{fractions, padded}
-use Rattle.divisors.proofs.Makes.{thin_of_lem, thin_thins}
+use Rattle.divisors.specs.Lemmas.Makes.{thin_of_lem, thin_thins}
 use Rattle.divisors.specs.Lists.{tidy_of}
 use Rattle.divisors.specs.Written.{lowest_above}
 use Rattle.divisors.proofs.Single.{one_item, thin_short}

@@ -1,12 +1,11 @@
-use Rattle.std.proofs.Common.{rules, ℕ, ℤ, Ok, Option, Result, sym, ap, ◌∙◌, subst}
+use Rattle.std.proofs.Common.{rules, ℤ, Ok, Option, Result, ap, ◌∙◌, subst}
 use Rattle.leaf.specs.declared.bounds.Bounds.{Bounds}
 use Rattle.faults.specs.Faults.{Refused, then}
 use Rattle.amounts.specs.declared.amount_leaf.AmountLeaf.{AmountLeaf}
 use Rattle.amounts.specs.Leaves.{leaf_of}
 use Rattle.amounts.specs.Making.{after, amount_in, window_of}
 use Rattle.amounts.specs.Meaning.{Means, value_of}
-use Rattle.divisors.specs.Written.{refusal_of_both}
-use Rattle.amounts.specs.InRange.{amount_is, not_refused}
+use Rattle.amounts.specs.InRange.{amount_is}
 use Rattle.amounts.specs.Amounts.{amounts}
 use Rattle.leaf.specs.Laws.Made.{window_made}
 use Rattle.leaf.specs.Laws.Orders.{int_written}
@@ -20,7 +19,7 @@ returns c =
     let us = c.args.barred.now in
     let b = c.in_ok-bounds.bounds in
     let a = c.leaf_of.result in
-    let none = not_refused (refusal_of_both ws us) c.in_ok-check_divisors.ensures in
+    let none = c.in_ok-check.ensures in
     let q = c.in_ok-bounds.ensures.value ∙ int_written amount_in c.args.minimum c.args.maximum in
     let w = window_made amounts amount_in (λ x z e. amount_is x.negative x.magnitude z e) c.args.minimum c.args.maximum b q in
     let leaf : Bounds ℤ → Result AmountLeaf Refused = λ x. Ok (leaf_of x.minimum x.maximum ws us) in
@@ -28,7 +27,7 @@ returns c =
       value =
           ap (λ (x : AmountLeaf). Ok x) c.leaf_of.ensures.value ∙
           (ap (λ (r : Result (Bounds ℤ) Refused). then r leaf) q ∙
-          sym (ap (λ (o : Option ℕ). after o (then (window_of c.args.minimum c.args.maximum) leaf)) none));
+          ap (λ (o : Option Refused). after o (then (window_of c.args.minimum c.args.maximum) leaf)) none);
       sound = c.leaf_of.ensures.sound w.window;
       means =
           subst (λ (h : Option ℤ). Means (value_of c.args.minimum) h ws us a) w.maximum
@@ -40,5 +39,5 @@ returns c =
 pub returns-in_err-bounds-clause-value : goal.returns-in_err-bounds-clause-value
 returns-in_err-bounds-clause-value c =
     let q = c.in_err-bounds.ensures.value ∙ int_written amount_in c.args.minimum c.args.maximum in
-    let none = not_refused (refusal_of_both c.args.required.now c.args.barred.now) c.in_ok-check_divisors.ensures in
+    let none = c.in_ok-check.ensures in
     search (rules, q, none)

@@ -3,7 +3,7 @@ use native.Mathlib.Nat.{div-one, div-zero}
 use Rattle.divisors.specs.declared.fraction.Fraction.{Fraction}
 use Rattle.divisors.specs.Fractions.{LowestTerms, none, reduce_of}
 use Rattle.divisors.specs.Whole.{gcd_of}
-use Rattle.divisors.proofs.Makes.{lowest}
+use Rattle.divisors.specs.Lemmas.Makes.{lowest}
 use Rattle.divisors.proofs.fraction.Fraction.lowest_terms.Goals as goal
 
 -- by the divisor in hand

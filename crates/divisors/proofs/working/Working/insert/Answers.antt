@@ -8,7 +8,7 @@ returns-clause-row c =
     let old = c.args.self.now.items in
     let size : length old ≡ 12 = search rules in
     let moved = c.copy_within.ensures.by_index in
-    moved_down old c.copy_within.new.self c.args.at c.args.self.now.count c.args.f c.requires.1 (omega arith) c.copy_within.ensures.len
+    moved_down old c.copy_within.new.self c.args.at c.args.self.now.count c.args.f c.requires.within (omega arith) c.copy_within.ensures.len
     (λ j h. moved.1 j none (omega arith))
     (λ j a b.
     let e : c.args.at + ((j + 1) - (c.args.at + 1)) ≡ j = omega arith in

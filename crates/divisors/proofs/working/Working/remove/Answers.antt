@@ -8,7 +8,7 @@ returns-clause-row c =
     let old = c.args.self.now.items in
     let size : length old ≡ 12 = search rules in
     let moved = c.copy_within.ensures.by_index in
-    moved_up old c.copy_within.new.self c.args.at c.args.self.now.count c.requires (omega (arith, c.args.self.now.fits)) c.copy_within.ensures.len
+    moved_up old c.copy_within.new.self c.args.at c.args.self.now.count c.requires.within (omega arith) c.copy_within.ensures.len
     (λ j h. moved.1 j none h)
     (λ j a b.
     let e : (c.args.at + 1) + (j - c.args.at) ≡ j + 1 = omega arith in

@@ -1,5 +1,5 @@
 use Rattle.std.proofs.Common.{◌≡◌}
-use Rattle.divisors.specs.Fractions.{divides}
+use Rattle.divisors.specs.Dividing.{divides}
 use Rattle.divisors.specs.Lists.{some}
 use Rattle.divisors.proofs.row.fn.Row.bars_no_more_than.all.Given as goal
 

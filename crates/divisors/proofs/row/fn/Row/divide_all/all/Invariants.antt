@@ -1,5 +1,5 @@
 use Rattle.std.proofs.Common.{◌≡◌}
-use Rattle.divisors.specs.Fractions.{divides}
+use Rattle.divisors.specs.Dividing.{divides}
 use Rattle.divisors.specs.Lists.{some}
 use Rattle.divisors.proofs.row.fn.Row.divide_all.all.Given as goal
 

@@ -1,0 +1,2 @@
+-- What the laws of amount leaves rest on.
+pub mod Layout

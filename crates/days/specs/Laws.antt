@@ -1,0 +1,2 @@
+-- What the laws of day leaves rest on.
+pub mod Layout
