@@ -18,7 +18,7 @@ use Rattle.list.specs.Lists.{All, inserted_all}
 use Rattle.list.specs.Encoded.{IsLeaf, leaves_bytes, leaves_of, sheet_bytes}
 use Rattle.list.specs.Held.{Tells, stopped}
 use Rattle.list.specs.Sheets.{Outcome, ends, accepted_at, sheet_outcome}
-use Rattle.list.specs.Taking.{FieldUnfit, LeafDue, LeafIs, StopsBy, TakenTo, TakesSheet}
+use Rattle.list.specs.Taking.{HasUnfitField, LeafDue, HasLeaf, StopsBy, TakenTo, TakesSheet}
 use Rattle.list.specs.declared.sheets.SheetAnswer.{SheetAnswer}
 use Rattle.list.proofs.Encoded.{accepted_before, all_longer, bytes_append, leaves_stand, longer}
 use Rattle.list.proofs.Fed.{accepted_full, accepted_not, left, left_all, left_end, left_stop, read_well, sheet_all, sheet_begun, sheet_empty, sheet_long, sheet_other}
@@ -122,7 +122,7 @@ module _ {V L : Type 0} (k : Kind V L) (laws : Laws k) (n : ℕ) (bytes : List �
     also : (s : Refusal) (p : ℕ) → StopsBy k n bytes h s p → (r : Refusal) → number_of s ≡ number_of r → StopsBy k n bytes h r p
     also s p c r e = subst (λ (z : Refusal). StopsBy k n bytes h z p) (same_refusal s r e) c
 
-    of_field : (r : Refusal) (p : ℕ) → is_of_field (number_of r) ≡ true → FieldUnfit k n bytes h (number_of r) p → StopsBy k n bytes h r p
+    of_field : (r : Refusal) (p : ℕ) → is_of_field (number_of r) ≡ true → HasUnfitField k n bytes h (number_of r) p → StopsBy k n bytes h r p
     of_field UnknownByte p f x = inr x
     of_field BadPart p f x = x
     of_field ManyDivisors p f x = x
@@ -149,7 +149,7 @@ module _ {V L : Type 0} (k : Kind V L) (laws : Laws k) (n : ℕ) (bytes : List �
             is z (by_number m p (λ r e. of_field r p (subst (λ (i : ℕ). is_of_field i ≡ true) e g) (at, d, subst (λ (i : ℕ). Unfit (layout_of k bytes).table bytes (layout_of k bytes).plan at i p) e (((judged at).unfit m p g).0 z))))
         by (inr (inr (inr (inr (p, z))))) =
             let (i, x) = ((judged at).eight p).0 z in
-            is z (by_number 8 p (also MinAboveMax p (subst (λ (j : ℕ). LeafDue k n bytes h j × LeafIs k n bytes h false j) (sym i) (d, x))))
+            is z (by_number 8 p (also MinAboveMax p (subst (λ (j : ℕ). LeafDue k n bytes h j × HasLeaf k n bytes h false j) (sym i) (d, x))))
 
     -- the leaves accepted behind some, as written, and how the sheet ends
     record Reaches (xs : List L) (o : Outcome L) : Type 0 where
@@ -216,7 +216,7 @@ module _ {V L : Type 0} (k : Kind V L) (laws : Laws k) (n : ℕ) (bytes : List �
     leaf_refuses : (at : ℕ) (d : LeafDue k n bytes h at) (f : Refused) → leaf_at k bytes at ≡ refused f → outcome.stop ≡ Some f
     leaf_refuses at d f q = stop_at at d.leaves d.taken f d.goes_on (accepted_not k n bytes at (into d.leaves) f q)
 
-    unfit_stops : (m p : ℕ) → is_of_field m ≡ true → FieldUnfit k n bytes h m p → outcome.stop ≡ Some (at_byte m p)
+    unfit_stops : (m p : ℕ) → is_of_field m ≡ true → HasUnfitField k n bytes h m p → outcome.stop ≡ Some (at_byte m p)
     unfit_stops m p f (at, d, x) = leaf_refuses at d (at_byte m p) (((judged at).unfit m p f).1 x)
 
     stop_is : (m p : ℕ) → outcome ≡ ends 0 h (Some (at_byte m 0)) → p ≡ 0 → outcome.stop ≡ Some (at_byte m p)

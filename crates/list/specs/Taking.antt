@@ -35,20 +35,20 @@ module _ {V L : Type 0} (k : Kind V L) where
     EndsInField = (at : ℕ) × LeafDue at × SheetEnds (layout_of k bytes).table bytes (layout_of k bytes).plan at
 
     -- one in which no number stands, which names its byte,
-    abbrev pub NumberBad : ℕ → Type 0
-    NumberBad p = (at : ℕ) × LeafDue at × NoNumber (layout_of k bytes).table bytes (layout_of k bytes).plan at p
+    abbrev pub HasBadNumber : ℕ → Type 0
+    HasBadNumber p = (at : ℕ) × LeafDue at × NoNumber (layout_of k bytes).table bytes (layout_of k bytes).plan at p
 
     -- or one in which that may not stand which stands there: of the number and the byte that the kind's table of fields says
-    abbrev pub FieldUnfit : ℕ → ℕ → Type 0
-    FieldUnfit m p = (at : ℕ) × LeafDue at × Unfit (layout_of k bytes).table bytes (layout_of k bytes).plan at m p
+    abbrev pub HasUnfitField : ℕ → ℕ → Type 0
+    HasUnfitField m p = (at : ℕ) × LeafDue at × Unfit (layout_of k bytes).table bytes (layout_of k bytes).plan at m p
 
     -- all fields of the leaf that stands there are in order, and its minimum is at most its maximum, or is not
-    abbrev pub LeafIs : Bool → ℕ → Type 0
-    LeafIs ordered at = (w : k.Written) × (end : ℕ) × LeafStands (layout_of k bytes) bytes at w end × (is_written_window (layout_of k bytes) w ≡ ordered)
+    abbrev pub HasLeaf : Bool → ℕ → Type 0
+    HasLeaf ordered at = (w : k.Written) × (end : ℕ) × LeafStands (layout_of k bytes) bytes at w end × (is_written_window (layout_of k bytes) w ≡ ordered)
 
     -- its first byte is none of the kind's
-    abbrev pub OtherKind : Type 0
-    OtherKind = (length bytes ≤ 32768) × (0 < length bytes) × (k.kind_byte (first_of bytes) ≡ false)
+    abbrev pub IsOtherKind : Type 0
+    IsOtherKind = (length bytes ≤ 32768) × (0 < length bytes) × (k.kind_byte (first_of bytes) ≡ false)
 
     -- by which refusal the sheet is stopped, and which byte that names
     abbrev pub StopsBy : Refusal → ℕ → Type 0
@@ -57,21 +57,19 @@ module _ {V L : Type 0} (k : Kind V L) where
     -- 2: it is empty, or ends in a leaf; its length
     StopsBy EndsEarly p = (p ≡ length bytes) × ((bytes ≡ []) ⊎ EndsInField)
     -- 3: a number is not in shortest form, or is 2^64 and up; its first byte
-    StopsBy BadNumber p = NumberBad p
+    StopsBy BadNumber p = HasBadNumber p
     -- 4: the first byte is none of the kind's, a flag is unknown, or a sign is without its bound; that byte
-    StopsBy UnknownByte p = ((p ≡ 0) × OtherKind) ⊎ FieldUnfit 4 p
-    -- 5: a numerator or denominator is 0 or above 2^63 − 1; its first byte
-    StopsBy BadPart p = FieldUnfit 5 p
-    -- 6: a list has more than six divisors; the count's first byte
-    StopsBy ManyDivisors p = FieldUnfit 6 p
-    -- 7: an amount is out of range, or minus zero, or there is no such day; its first byte, of a day its year's
-    StopsBy OutOfRange p = FieldUnfit 7 p
+    StopsBy UnknownByte p = ((p ≡ 0) × IsOtherKind) ⊎ HasUnfitField 4 p
+    -- 5, 6, 7 and 9: in a field stands what the kind's table of fields refuses with that number; the byte that the table says
+    StopsBy BadPart p = HasUnfitField 5 p
+    StopsBy ManyDivisors p = HasUnfitField 6 p
+    StopsBy OutOfRange p = HasUnfitField 7 p
     -- 8: a minimum is above its maximum; the leaf's first byte
-    StopsBy MinAboveMax p = LeafDue p × LeafIs false p
-    -- 9: a weekday set is 0 or above 127; its first byte
-    StopsBy BadWeekdays p = FieldUnfit 9 p
+    StopsBy MinAboveMax p = LeafDue p × HasLeaf false p
+    StopsBy BadWeekdays p = HasUnfitField 9 p
     -- 10: the table is full, and another leaf stands there; that leaf's first byte
-    StopsBy TableFull p = (d : LeafDue p) × (length d.leaves ≡ n - length h) × LeafIs true p
+    StopsBy TableFull p = (d : LeafDue p) × (length d.leaves ≡ n - length h) × HasLeaf true p
+    -- 11 stops no sheet
     StopsBy ShortBuffer p = ⊥
 
     -- of the answer, and of the leaves held then
