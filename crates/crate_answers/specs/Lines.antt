@@ -1,5 +1,5 @@
 -- The lines of a sheet.
-use Rattle.std.specs.Prelude.{ℕ, Bool, true, false, cond, ◌&&◌, List, [], ◌∷◌, map, is_none, Option, ◌==◌}
+use Rattle.std.specs.Prelude.{ℕ, Bool, true, false, cond, ◌&&◌, List, [], ◌∷◌, map, is_none, ◌==◌}
 use Rattle.std.specs.Str.{bytes_eq}
 use Rattle.hex_text.specs.Hex.{hex_of}
 use Rattle.leaf.specs.Kind.{Kind}

@@ -1,5 +1,5 @@
 -- What replaying answers comes to: by a test, `holds`, that a line has the answer that it expects.
-use Rattle.std.specs.Prelude.{ℕ, Bool, true, false, cond, not, ◌&&◌, List, [], ◌∷◌, ◌++◌, count_by, codes, decimal, ◌==◌}
+use Rattle.std.specs.Prelude.{ℕ, Bool, false, cond, not, ◌&&◌, List, [], ◌∷◌, ◌++◌, count_by, codes, decimal, ◌==◌}
 use Rattle.notation.specs.Numbered.{numbered}
 use Rattle.notation.specs.Text.{lines_of}
 

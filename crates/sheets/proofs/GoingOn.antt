@@ -1,9 +1,9 @@
 -- The leaves behind the first ones of a sheet go on.
-use Rattle.std.proofs.Common.{◌≡◌, ℕ, zero, suc, ◌+◌, min, List, [], ◌∷◌, ◌++◌, length, take, drop, sym, ap, refl, ◌∙◌, arith}
+use Rattle.std.proofs.Common.{◌≡◌, ℕ, zero, suc, min, List, [], ◌∷◌, ◌++◌, length, take, drop, sym, ap, refl, ◌∙◌, arith}
 use Rattle.std.proofs.lemmas.List.{drop_at, drop-drop, length-append}
 use Rattle.leaf.specs.Kind.{Kind}
 use Rattle.leaf.specs.Layouts.{bytes_of}
-use Rattle.list.specs.Encoded.{leaves_bytes, sheet_bytes}
+use Rattle.list.specs.Encoded.{leaves_bytes}
 use Rattle.amounts.specs.Amounts.{amounts}
 use Rattle.days.specs.Days.{days}
 use Rattle.sheets.specs.Rest.{GoesOn, RestsGoOn, rest_sheet}

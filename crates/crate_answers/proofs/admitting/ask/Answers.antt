@@ -1,4 +1,4 @@
-use Rattle.std.proofs.Common.{◌≡◌, ℕ, ℤ, w64, to_z, of_z, [], ◌∷◌, List, length, ap, sym, ◌∙◌, subst}
+use Rattle.std.proofs.Common.{◌≡◌, ℕ, ℤ, w64, to_z, of_z, [], ◌∷◌, length, ap, sym, ◌∙◌, subst}
 use Rattle.std.proofs.lemmas.Int.{to_z-of_z}
 use Rattle.leaf.specs.Kind.{admits}
 use Rattle.list.specs.Held.{Leads, held_of, places_of}

@@ -1,6 +1,6 @@
-use Rattle.std.proofs.Common.{rules, sym, ap, ◌∙◌, is_some, is_none, not, vec_items}
+use Rattle.std.proofs.Common.{rules}
 use Rattle.sheets.specs.Output.{is_of_days}
-use Rattle.crate_answers.proofs.Whole.{lines_printed, refused_as}
+use Rattle.crate_answers.proofs.Whole.{lines_printed}
 use Rattle.crate_answers.proofs.printing.has_lines.Goals as goal
 
 pub returns : goal.returns

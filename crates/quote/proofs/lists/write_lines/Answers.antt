@@ -1,4 +1,4 @@
-use Rattle.std.proofs.Common.{◌≡◌, ◌<◌, ◌≤◌, true, length, get_or, is_some, slice_get, unwrap_or, refl, ap, ◌∙◌, arith}
+use Rattle.std.proofs.Common.{◌≡◌, ◌<◌, ◌≤◌, true, length, is_some, slice_get, unwrap_or, refl, ap, ◌∙◌, arith}
 use Rattle.list.specs.Held.{held_of, lines_of}
 use Rattle.notation.specs.Laws.Numbered.{nothing_yet}
 use Rattle.quote.specs.Quotation.{lines_text, numbered_line}
