@@ -12,8 +12,9 @@
  *   and there is no test for null. A compiler that knows `nonnull` refuses a null that it sees; the pointer of an empty std::vector may be
  *   one that it does not see.
  * - A list has fewer than 2^63 bytes, a bool is true or false, and a uint64_t, an int64_t and a struct are aligned as in C.
- * - Calls share nothing: each has its own table, on its stack (some 100 KB) or on the heap. A call that takes memory takes it from the
- *   program's malloc and realloc and gives it back to its free. It is not made from a signal handler, nor in the forked child of a process with threads.
+ * - Calls share nothing: each has its own table, on its stack (less than 100 KB) or on the heap. A call that takes memory takes it from the
+ *   program's malloc and realloc, which give blocks aligned to 16 bytes, and gives it back to its free. It is not made from a signal handler,
+ *   nor in the forked child of a process with threads.
  * - Nothing else is asked. For every list of elements there is an answer, and it is the one told here: that is proved (README.md).
  *
  * Refusals are told by their numbers, and 0 is none:
@@ -116,8 +117,8 @@ struct rule_lines_text rule_lines_print(const uint8_t *sheet, size_t bytes, uint
 RULE_LINES_NO_NULL
 size_t rule_lines_rest(const uint8_t *sheet, size_t bytes, size_t start, uint8_t *out, size_t room);
 
-/* Whether a leaf admits the amount, of those that were accepted of a sheet of amounts; where `read` is true, whether one of its lines does. The
- * answer is the same, and so is the time, but for the reading. */
+/* Whether a leaf admits the amount, of those that were accepted of a sheet of amounts; where `read` is true, whether one of its lines does, which
+ * admit the same amounts. */
 RULE_LINES_NO_NULL
 struct rule_lines_answer rule_lines_admit(const uint8_t *sheet, size_t bytes, int64_t value, bool read);
 
