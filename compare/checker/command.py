@@ -7,7 +7,7 @@ from random import Random
 from typing import Callable, Dict, Optional, Sequence
 
 from .runs.against_jsonschema import check_against_jsonschema
-from .runs.cases import check_cases, check_planted
+from .runs.cases import check_cases, check_kept, check_planted
 from .runs.executables import CannotBuild, Executables
 from .runs.parts import Job, check_ask, check_fold, check_lines, check_quote
 from .runs.tally import Tally
@@ -15,6 +15,7 @@ from .runs.tally import Tally
 PARTS: Dict[str, Callable[[Job], Tally]] = {
     "cases": check_cases,
     "planted": check_planted,
+    "kept": check_kept,
     "lines": check_lines,
     "quote": check_quote,
     "ask": check_ask,

@@ -59,6 +59,17 @@ def check_planted(job: Job) -> Tally:
     return tally
 
 
+def check_kept(job: Job) -> Tally:
+    """The answers that stand in crates/cases/stdin, whatever the seed."""
+    tally = Tally("kept", "cases", sides=("the rules", "crates/cases/stdin"))
+    for line in (job.executables.crates / "cases" / "stdin").read_text().splitlines():
+        if line and not line.startswith("#"):
+            digits = line.split(" ", 1)[0]
+            sheet = b"" if digits == "-" else bytes.fromhex(digits)
+            tally.compare(digits, programs.case_of(sheet, programs.outcome_of(sheet)).line(), line)
+    return tally
+
+
 def right_cases(job: Job, tally: Tally) -> Iterator[Case]:
     """The cases of drawn sheets with their right answers, counted by the tally."""
     for shape, sheet in sheets(job.rng, job.count):

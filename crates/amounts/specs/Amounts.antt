@@ -10,6 +10,7 @@ use Rattle.amounts.specs.Values.{incremented, is_amount, next_of, is_on_grid}
 use Rattle.amounts.specs.Rules.{admitted, both_at_most, step}
 use Rattle.amounts.specs.Leaves.{barred, leaf_of, is_bound, is_window, required}
 use Rattle.amounts.specs.Layout.{Made, Role, Written, amount_layout}
+use Rattle.amounts.specs.Grammar.{AmountRefusals}
 
 -- bounds that are amounts, minimum at most maximum, a folded and a thinned list
 abbrev pub is_lawful : AmountLeaf → Bool
@@ -37,4 +38,5 @@ amounts = record {
   Written = Written;
   Made = Made;
   layout = λ b. amount_layout;
+  Refusals = AmountRefusals;
 }

@@ -73,11 +73,10 @@ impl Leaf<i64> for AmountLeaf {
         b == KIND
     }
 
-    #[tactic(auto, using(crate::specs::Laws::Layout::written_means, crate::specs::Laws::Layout::refusals))]
+    #[tactic(auto, using(crate::specs::Laws::Layout::written_means))]
     fn read_fields(reader: &mut Reader<'_>, place: &mut AmountLeaf) -> Result<(), Fault>
         ensures reads { ReadsInto (leaf_at amounts) reader.old reader.new place.old place.new result }
         ensures means { WrittenMeans }
-        ensures refusals { AmountRefusals (sheet_of reader.old) (at_of reader.old) }
     {
         *place = read_leaf(reader)?;
         Ok(())

@@ -9,7 +9,7 @@ ghost use Rattle.std.specs.Prelude.{length, take, [], ◌∷◌, ◌≡◌};
 use leaf::Leaf;
 use list::Leaves;
 
-// Opens a list in the caller's table, inserts a leaf, takes a sheet and counts: the lines stand in front in the table.
+// Opens a list in the caller's table, inserts a leaf, takes a sheet and counts: the lines stand in front in the table, and the places past them are free.
 pub fn lines_of<V: Copy, L: Leaf<V>>(table: &mut [L], leaf: L, bytes: &[u8]) -> usize
     ensures { Lawful L.kind leaf → Promised L.kind (length table.old) (insert leaf ∷ sheet bytes.now ∷ []) (take result table.new) }
 {

@@ -7,6 +7,7 @@ use Rattle.leaf.specs.Windows.{hull_of}
 use Rattle.days.specs.Leaves.{is_bound, is_window, leaf_of}
 use Rattle.days.specs.Layout.{Made, Role, Written, day_layout}
 use Rattle.days.specs.Weekdays.{holds, is_set, next_day, is_on_grid}
+use Rattle.days.specs.Grammar.{DayRefusals}
 
 -- bounds that are days, minimum at most maximum, a set of weekdays
 abbrev pub is_lawful : DayLeaf → Bool
@@ -33,4 +34,5 @@ days = record {
   Written = Written;
   Made = Made;
   layout = λ b. day_layout;
+  Refusals = DayRefusals;
 }

@@ -12,7 +12,7 @@ use Rattle.days.specs.Days.{days}
 use Rattle.days.specs.Grid.{absent, grid_day, next_grid, next_least, next_none}
 use Rattle.days.specs.Sets.{holds_self, holds_trans, holds_anti, holds_has}
 use Rattle.days.specs.Lawful.{lawful_parts, same_window, window_lawful}
-use Rattle.days.specs.Laws.Layout.{layout_laws, written_lawful}
+use Rattle.days.specs.Laws.Layout.{layout_laws, written_lawful, refusals}
 
 total : (a b : ℕ) → nat_le a b ≡ false → nat_le b a ≡ true
 total a b h = le-leb b a (omega (arith, leb-false a b h))
@@ -77,4 +77,5 @@ days_laws = record {
   covers_admits = λ a b v p q h g. grid_holds a.weekdays b.weekdays v h g;
   layouts = λ b. layout_laws;
   written_lawful = λ b. written_lawful;
+  refusals = refusals;
 }

@@ -74,11 +74,10 @@ impl Leaf<u32> for DayLeaf {
         b == KIND
     }
 
-    #[tactic(auto, using(crate::proofs::Means::written_means, crate::specs::Laws::Layout::refusals))]
+    #[tactic(auto, using(crate::proofs::Means::written_means))]
     fn read_fields(reader: &mut Reader<'_>, place: &mut DayLeaf) -> Result<(), Fault>
         ensures reads { ReadsInto (leaf_at days) reader.old reader.new place.old place.new result }
         ensures means { WrittenMeans }
-        ensures refusals { DayRefusals (sheet_of reader.old) (at_of reader.old) }
     {
         *place = read_leaf(reader)?;
         Ok(())

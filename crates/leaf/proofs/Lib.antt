@@ -1,3 +1,4 @@
 mod Steps
 pub mod Beginnings
+pub mod EncodedNumbers
 pub mod Fills

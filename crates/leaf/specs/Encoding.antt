@@ -34,7 +34,7 @@ Improper w = ((w.last ≡ 0) × (0 < length w.front)) ⊎ (2 ^ 64 ≤ value w.fr
 abbrev pub Written : List ℕ → ℕ → ℕ → Type 0
 Written bytes n size = (w : Spelt bytes) × Proper w × (n ≡ value w.front w.last) × (size ≡ length w.front + 1)
 
--- the bytes end behind a last group, and behind the tenth
+-- the bytes end before a last group, and before the tenth
 abbrev pub CutShort : List ℕ → Type 0
 CutShort bytes = Follow bytes × (length bytes < 10)
 
@@ -67,6 +67,10 @@ encoded (suc k) n = cond (nat_lt n 128) (n ∷ []) ((128 + n % 128) ∷ encoded 
 -- nine groups and a last one are enough below 2^70
 abbrev pub encode : ℕ → List ℕ
 encode n = encoded 9 n
+
+-- these bytes are those of the number n, and a rest
+unfoldable pub IsEncoded : ℕ → List ℕ → List ℕ → Type 0
+IsEncoded n bytes rest = bytes ≡ encode n ++ rest
 
 abbrev pub Bytes : List ℕ → Type 0
 Bytes [] = Unit {0}

@@ -11,7 +11,7 @@ module _ {V L : Type 0} (k : Kind V L) where
 
   -- on a sheet that begins with the byte b
   pub record LeafGrammar : Type 0 where
-    -- the bytes of a leaf are read as that leaf, wherever they stand
+    -- the bytes of a leaf are read as that leaf, wherever they stand behind that byte
     pub read_back : (b : ℕ) (w : k.Written) (front rest : List ℕ) → (k.layout b).fits w ≡ true → is_written_window (k.layout b) w ≡ true →
         leaf_at k ((b ∷ front) ++ (bytes_of (k.layout b) w ++ rest)) (length (b ∷ front)) ≡ found (written_leaf (k.layout b) w) (length (b ∷ front) + length (bytes_of (k.layout b) w))
     -- and are those of no other leaf

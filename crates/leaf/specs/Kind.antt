@@ -32,8 +32,10 @@ pub record Kind (V L : Type 0) : Type 1 where
   pub Written : Type 0
   pub Made : Type 0
   pub layout : ℕ → Layout Role Written Made L
+  -- of a sheet: which field, which test and which byte is meant by each of the refusals 4 to 9 but 8, in the kind's own words
+  pub Refusals : List ℕ → Type 0
 
--- the first byte of a sheet; an empty sheet, which is read by no layout, has any
+-- the first byte of a sheet; of an empty one, in which no leaf stands under any layout, 0
 abbrev pub first_of : List ℕ → ℕ
 first_of [] = 0
 first_of (b ∷ bs) = b
@@ -171,3 +173,5 @@ module _ {V L : Type 0} (k : Kind V L) where
     -- each layout shows its laws, and makes lawful leaves
     pub layouts : (b : ℕ) → LayoutLaws (k.layout b)
     pub written_lawful : (b : ℕ) (w : k.Written) → (k.layout b).fits w ≡ true → is_written_window (k.layout b) w ≡ true → Lawful (written_leaf (k.layout b) w)
+    -- and the kind's words are true of every sheet
+    pub refusals : (s : List ℕ) → k.Refusals s

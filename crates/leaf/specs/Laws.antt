@@ -1,4 +1,4 @@
--- What the laws of a kind rest on: windows, chains of readings, the numbers, the fields and the plans of a sheet.
+-- What the laws of a kind rest on: windows, the numbers, the fields and the plans of a sheet.
 pub mod Hulls
 pub mod Orders
 pub mod Deciding

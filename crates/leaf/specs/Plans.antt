@@ -112,10 +112,10 @@ module _ {Role : Type 0} (t : Table Role) where
         pub size : ℕ
         pub stands : Written (drop p s) n size
 
-      -- what stands in one of the fields r, all before it being in order, does not fit; p is the byte that this names
-      abbrev pub UnfitIn : {I : Type 0} → (I → Role) → ℕ → Type 0
-      UnfitIn {I} r p = (i : I) × (place : ℕ) × (n : ℕ) × (p ≡ t.named (r i) place) × NumberDue (r i) place n × (t.fits (r i) n ≡ false)
+      -- in one of the fields r, all before it being in order, stands a number that the field's test refuses; p is the byte that this names
+      abbrev pub UnfitIn : {I : Type 0} → (I → Role) → (I → ℕ → Bool) → ℕ → Type 0
+      UnfitIn {I} r test p = (i : I) × (place : ℕ) × (n : ℕ) × (p ≡ t.named (r i) place) × NumberDue (r i) place n × (test i n ≡ false)
 
-      -- the first byte does not fit as flags, and is named
-      abbrev pub UnfitFlags : Role → ℕ → Type 0
-      UnfitFlags flags p = (p ≡ at) × ((f : ℕ) × (drop at s ≡ f ∷ drop 1 (drop at s)) × (t.fits flags f ≡ false))
+      -- the test of flags refuses the first byte, which is named
+      abbrev pub UnfitFlags : (ℕ → Bool) → ℕ → Type 0
+      UnfitFlags test p = (p ≡ at) × ((f : ℕ) × (drop at s ≡ f ∷ drop 1 (drop at s)) × (test f ≡ false))

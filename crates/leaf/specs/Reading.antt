@@ -11,6 +11,10 @@ sheet_of r = r.sheet.now
 abbrev pub at_of : Reader → ℕ
 at_of r = length r.sheet.now - length r.rest.now
 
+-- the bytes that are not read yet
+abbrev pub left_of : Reader → List ℕ
+left_of r = drop (at_of r) (sheet_of r)
+
 -- what a call read up to a byte, or its refusal
 abbrev pub up_to : {A : Type 0} → Result A Fault → ℕ → Answer A
 up_to (Ok x) end = found x end

@@ -11,7 +11,7 @@ abbrev pub hull_of : {V : Type 0} → (V → V → Bool) → Bounds V → Bounds
 hull_of le a b = record { minimum = lower_of le a.minimum b.minimum; maximum = higher_of le a.maximum b.maximum }
 
 module _ {V : Type 0} where
-  -- what was written has to be a value: a maker's refusal names no byte, a reader's the first byte of the bound
+  -- what was written has to be a value: a maker's refusal names no byte
   abbrev pub valued : Option V → Result (Option V) Refused
   valued None = Err (unplaced 7)
   valued (Some v) = Ok (Some v)

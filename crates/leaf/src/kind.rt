@@ -65,6 +65,7 @@ pub trait Leaf<V: Copy>: Copy {
         ensures reads { Fills (leaf_at kind sheet.now start) place.old place.new result }
         ensures judged { AnswersStand kind sheet.now start }
         ensures grammar { LeafGrammar kind }
+        ensures refusals { kind.Refusals sheet.now }
         ensures within { IfOk result (λ end. (start < end) × (end ≤ length sheet.now)) }
         ensures lawful { OnOk result (Lawful kind place.new) }
     {

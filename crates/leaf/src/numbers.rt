@@ -1,5 +1,6 @@
 ghost use Rattle.std.specs.Prelude.{◌≡◌, ◌<◌, ◌≤◌, length, IfOk};
 ghost use Rattle.faults.specs.Faults.{seen};
+ghost use Rattle.leaf.specs.Encoding.{Bytes};
 ghost use Rattle.leaf.specs.Numbers.{groups_of, judged, moved};
 
 use faults::{Fault, Refusal};
@@ -9,6 +10,7 @@ const MOST: u32 = 10;
 
 // The number at the front of `rest`, and how many bytes it has; both places are of the sheet, whose end `rest` reaches.
 pub(crate) fn number(rest: &[u8], start: usize, end: usize) -> Result<(u64, usize), Fault>
+    ensures bytes { Bytes rest.now }
     ensures within { IfOk result (λ p. (0 < p.1) × (p.1 ≤ length rest.now)) }
     ensures reads { moved start (seen result) ≡ judged end start (groups_of 10 rest.now) }
 {

@@ -1,4 +1,4 @@
-ghost use Rattle.std.specs.Prelude.{◌≡◌, ◌-◌, drop, length, min, OnErr};
+ghost use Rattle.std.specs.Prelude.{◌≡◌, ◌-◌, drop, length, min, IfOk, OnErr};
 
 use crate::numbers::number;
 use crate::sheet::{are_flags, rest_of};
@@ -13,9 +13,9 @@ pub struct Reader<'a> {
 }
 
 impl<'a> Reader<'a> {
-    ghost use Rattle.leaf.specs.Encoding.{NumbersStand};
+    ghost use Rattle.leaf.specs.Encoding.{IsEncoded, NumbersStand};
     ghost use Rattle.leaf.specs.Numbers.{number_at};
-    ghost use Rattle.leaf.specs.Reading.{Reads, at_of, byte_at, sheet_of};
+    ghost use Rattle.leaf.specs.Reading.{Reads, at_of, byte_at, left_of, sheet_of};
     ghost use Rattle.leaf.specs.Windows.{flags_at};
 
     /// From a byte of the sheet on; with nothing left where `start` lies past its end.
@@ -53,6 +53,7 @@ impl<'a> Reader<'a> {
     pub fn number(&mut self) -> Result<u64, Fault>
         ensures reads { Reads number_at self.old self.new result }
         ensures kept { OnErr result (self.new ≡ self.old) }
+        ensures encoded { IfOk result (λ n. IsEncoded n (left_of self.old) (left_of self.new)) }
         ensures laws { NumbersStand }
     {
         let (n, size) = number(self.rest, self.at(), self.sheet.len())?;

@@ -257,4 +257,6 @@ module _ {V L : Type 0} (k : Kind V L) (laws : Laws k) (n : ℕ) (bytes : List �
           accepted = t.accepted ∙ (ap length c.taken ∙ length-map c.leaves (written_leaf (k.layout b)));
           lawful = subst (All (Lawful k)) c.taken p.lawful;
           held = e ∙ (p.held ∙ ap (λ (xs : List L). inserted_all (before k) xs h) c.taken);
+          taken = sym c.taken;
+          words = laws.refusals bytes;
         }

@@ -57,7 +57,7 @@ module _ {V L : Type 0} (k : Kind V L) where
   abbrev pub lines : ℕ → List (Call V L) → List L
   lines n cs = reading (run n cs)
 
-  -- leaves come from makers and readers, which give lawful ones
+  -- leaves come lawful from makers, readers and joins
   abbrev pub Allowed : Call V L → Type 0
   Allowed (insert x) = Lawful k x
   Allowed (sheet bytes) = Unit {0}

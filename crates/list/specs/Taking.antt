@@ -9,6 +9,7 @@ use Rattle.leaf.specs.Plans.{BadNumber as NoNumber, EndsEarly as SheetEnds, Unfi
 use Rattle.list.specs.Lists.{All, inserted_all}
 use Rattle.list.specs.Encoded.{IsLeaf, leaves_of, sheet_bytes}
 use Rattle.list.specs.Held.{held_of, places_of, stopped}
+use Rattle.list.specs.Sheets.{sheet_outcome}
 use Rattle.list.specs.declared.leaves.Leaves.{Leaves}
 use Rattle.list.specs.declared.sheets.SheetAnswer.{SheetAnswer}
 
@@ -58,7 +59,7 @@ module _ {V L : Type 0} (k : Kind V L) where
     StopsBy EndsEarly p = (p ≡ length bytes) × ((bytes ≡ []) ⊎ EndsInField)
     -- 3: a number is not in shortest form, or is 2^64 and up; its first byte
     StopsBy BadNumber p = HasBadNumber p
-    -- 4: the first byte is none of the kind's, a flag is unknown, or a sign is without its bound; that byte
+    -- 4: the first byte is none of the kind's, and is named; or as the four that follow
     StopsBy UnknownByte p = ((p ≡ 0) × IsOtherKind) ⊎ HasUnfitField 4 p
     -- 5, 6, 7 and 9: in a field stands what the kind's table of fields refuses with that number; the byte that the table says
     StopsBy BadPart p = HasUnfitField 5 p
@@ -93,6 +94,10 @@ module _ {V L : Type 0} (k : Kind V L) where
         pub accepted : a.accepted ≡ length leaves
         pub lawful : All (Lawful k) (leaves_of k (first_of bytes) leaves)
         pub held : h' ≡ inserted_all (before k) (leaves_of k (first_of bytes) leaves) h
+        -- they are those of the sheet's outcome, by which runs go
+        pub taken : leaves_of k (first_of bytes) leaves ≡ (sheet_outcome k n bytes h).taken
+        -- which field, which test and which byte is meant by 4 to 9 but 8, in the kind's words
+        pub words : k.Refusals bytes
 
   -- the same of a list before and after
   abbrev pub Takes : List ℕ → Leaves V L → Leaves V L → SheetAnswer → Type 0

@@ -46,4 +46,5 @@ closed k = record {
   Written = ⊥;
   Made = ⊤;
   layout = λ b. no_layout (closed_on k.blank None);
+  Refusals = λ s. ⊤;
 }

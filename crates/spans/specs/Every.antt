@@ -117,4 +117,5 @@ spans_laws = record {
   covers_admits = λ a b v p q h i. i;
   layouts = λ b. layout_laws;
   written_lawful = λ b. written_lawful;
+  refusals = λ s. tt;
 }

@@ -87,4 +87,5 @@ spans = record {
   Written = WrittenLeaf ℕ ⊤;
   Made = MadeLeaf ℕ ⊤;
   layout = λ b. span_layout;
+  Refusals = λ s. ⊤;
 }

@@ -29,6 +29,7 @@ use Rattle.amounts.specs.Making.{amount_in}
 use Rattle.amounts.specs.Meaning.{Means, WrittenMeans, value_of}
 use Rattle.amounts.specs.Means.{leaf_means}
 use Rattle.amounts.specs.Values.{amount_of, is_amount}
+use Rattle.leaf.specs.Numbers.{are_flags}
 
 none_some : {A : Type 0} {x : A} → None ≡ Some x → ⊥
 none_some e = let q : ◌≡◌ {A = ℕ} 0 1 = cc in omega (arith, q)
@@ -210,12 +211,13 @@ numbered_amount : (n : Bool) → Numbered amount_table (amount n)
 unfolding amount
 numbered_amount n = (refl, λ _ _. tt)
 
-pub refusals : (s : List ℕ) (at : ℕ) → AmountRefusals s at
-refusals s at = record {
-  four = unfit_flags amount_table s flags amount (λ b. then lists (λ p. done (record { bounds = b; rest = p }))) at 4 refl refl refl numbered_amount (λ b. ((numbered_list, λ _. (numbered_list, λ _. tt)), λ _. tt)) four;
-  five = unfit_in amount_table s amount_layout.plan at (λ (_ : ⊤). part) 5 (λ _. refl) (λ _. refl) five;
-  six = unfit_in amount_table s amount_layout.plan at (λ (_ : ⊤). count) 6 (λ _. refl) (λ _. refl) six;
-  seven = unfit_in amount_table s amount_layout.plan at magnitude 7 (λ _. refl) (λ _. refl) seven;
+pub refusals : (s : List ℕ) → AmountRefusals s
+refusals s = record {
+  four = λ at. unfit_flags amount_table s flags amount (λ b. then lists (λ p. done (record { bounds = b; rest = p }))) at (are_flags true) 4 (λ _. refl) refl refl refl numbered_amount (λ b. ((numbered_list, λ _. (numbered_list, λ _. tt)), λ _. tt)) four;
+  five = λ at. unfit_in amount_table s amount_layout.plan at (λ (_ : ⊤). part) (λ _. is_part) 5 (λ _ _. refl) (λ _. refl) (λ _. refl) five;
+  six = λ at. unfit_in amount_table s amount_layout.plan at (λ (_ : ⊤). count) (λ _ n. nat_le n 6) 6 (λ _ _. refl) (λ _. refl) (λ _. refl) six;
+  seven = λ at. unfit_in amount_table s amount_layout.plan at magnitude (λ negative m. is_some (amount_of negative m)) 7 (λ _ _. refl) (λ _. refl) (λ _. refl) seven;
+  nine = λ at p u. nine u.field u.refusal_is;
 }
   where
     four : (q : Role) → 4 ≡ amount_table.refusal q → q ≡ flags
@@ -241,6 +243,12 @@ refusals s at = record {
     seven (magnitude s) n e f = (s, refl)
     seven count n e f = absurd (omega (arith, e))
     seven part n e f = absurd (omega (arith, e))
+
+    nine : (q : Role) → 9 ≡ amount_table.refusal q → ⊥
+    nine flags e = omega (arith, e)
+    nine (magnitude s) e = omega (arith, e)
+    nine count e = omega (arith, e)
+    nine part e = omega (arith, e)
 
 -- nor of those that were read
 pub lists_taken :

@@ -20,6 +20,7 @@ use Rattle.days.specs.Making.{numbered}
 use Rattle.days.specs.Grammar.{DayRefusals}
 use Rattle.days.specs.Layout.{Role, flags, year, month, day, weekdays, Written, date, date_numbers, day_fields, day_layout, day_table, is_day}
 use Rattle.days.specs.Weekdays.{is_set}
+use Rattle.leaf.specs.Numbers.{are_flags}
 
 -- a date that there is has a number, and what has one is a date
 numbered_is : (d : Date) → is_day d ≡ true → numbered d ≡ Some (day_number d.year d.month d.day)
@@ -83,13 +84,22 @@ written_lawful w f t = let (a, b, set) = fitting day_fields field_laws w f in le
     bounded (Some d) h = let n = numbered_is d h in ap is_bound n ∙ day_small d.year d.month d.day (day_number d.year d.month d.day) n
 
 -- which fields give which refusal
-pub refusals : (s : List ℕ) (at : ℕ) → DayRefusals s at
-refusals s at = record {
-  four = unfit_flags day_table s flags date (λ b. then (field weekdays) (λ set. done (record { bounds = b; rest = set }))) at 4 refl refl refl (λ n. (refl, λ _ _. (refl, λ _ _. (refl, λ _ _. tt)))) (λ w. ((refl, λ _ _. tt), λ _. tt)) four;
-  seven = unfit_in day_table s day_layout.plan at (λ d. day d.0 d.1 d.2) 7 (λ _. refl) (λ _. refl) seven;
-  nine = unfit_in day_table s day_layout.plan at (λ (_ : ⊤). weekdays) 9 (λ _. refl) (λ _. refl) nine;
+pub refusals : (s : List ℕ) → DayRefusals s
+refusals s = record {
+  four = λ at. unfit_flags day_table s flags date (λ b. then (field weekdays) (λ set. done (record { bounds = b; rest = set }))) at (are_flags false) 4 (λ _. refl) refl refl refl (λ n. (refl, λ _ _. (refl, λ _ _. (refl, λ _ _. tt)))) (λ w. ((refl, λ _ _. tt), λ _. tt)) four;
+  five = λ at p u. others 5 (λ z. omega (arith, z)) (λ z. omega (arith, z)) (λ z. omega (arith, z)) u.field u.refusal_is;
+  six = λ at p u. others 6 (λ z. omega (arith, z)) (λ z. omega (arith, z)) (λ z. omega (arith, z)) u.field u.refusal_is;
+  seven = λ at. unfit_in day_table s day_layout.plan at (λ d. day d.0 d.1 d.2) (λ d n. is_some (day_of d.1 d.2 n)) 7 (λ _ _. refl) (λ _. refl) (λ _. refl) seven;
+  nine = λ at. unfit_in day_table s day_layout.plan at (λ (_ : ⊤). weekdays) (λ _. is_set) 9 (λ _ _. refl) (λ _. refl) (λ _. refl) nine;
 }
   where
+    others : (m : ℕ) → (m ≡ 4 → ⊥) → (m ≡ 7 → ⊥) → (m ≡ 9 → ⊥) → (q : Role) → m ≡ day_table.refusal q → ⊥
+    others m a b c flags e = a e
+    others m a b c year e = b e
+    others m a b c month e = b e
+    others m a b c (day first y d) e = b e
+    others m a b c weekdays e = c e
+
     four : (q : Role) → 4 ≡ day_table.refusal q → q ≡ flags
     four flags e = refl
     four year e = absurd (omega (arith, e))

@@ -70,9 +70,9 @@ module _ {Role A : Type 0} (t : Table Role) (s : List ℕ) (plan : Plan Role A) 
   unfit_at q p n size r w u = record { field = q; place = p; value = n; size = size; reached = r; stands = w; unfit = u; refusal_is = refl; named_is = refl }
 
   -- numbers that do not fit in the fields r, where no other field gives the refusal
-  pub unfit_in : {I : Type 0} (r : I → Role) (m : ℕ) → ((i : I) → m ≡ t.refusal (r i)) → ((i : I) → t.shape (r i) ≡ number) →
-      ((q : Role) (n : ℕ) → m ≡ t.refusal q → t.fits q n ≡ false → (i : I) × (q ≡ r i)) → (p : ℕ) → Unfit t s plan at m p ↔ UnfitIn t s plan at r p
-  unfit_in r m own numbers only p = (
+  pub unfit_in : {I : Type 0} (r : I → Role) (test : I → ℕ → Bool) (m : ℕ) → ((i : I) (n : ℕ) → test i n ≡ t.fits (r i) n) → ((i : I) → m ≡ t.refusal (r i)) → ((i : I) → t.shape (r i) ≡ number) →
+      ((q : Role) (n : ℕ) → m ≡ t.refusal q → t.fits q n ≡ false → (i : I) × (q ≡ r i)) → (p : ℕ) → Unfit t s plan at m p ↔ UnfitIn t s plan at r test p
+  unfit_in r test m tests own numbers only p = (
     (λ u.
         let (i, e) = only u.field u.value u.refusal_is u.unfit in (
           i,
@@ -84,27 +84,27 @@ module _ {Role A : Type 0} (t : Table Role) (s : List ℕ) (plan : Plan Role A) 
             size = u.size;
             stands = subst (λ h. Stands h (drop u.place s) u.value u.size) (ap t.shape e ∙ numbers i) u.stands;
           },
-          sym (ap (λ q. t.fits q u.value) e) ∙ u.unfit,
+          tests i u.value ∙ (sym (ap (λ q. t.fits q u.value) e) ∙ u.unfit),
         )),
     (λ (i, place, n, e, d, f).
         subst (λ z. Unfit t s plan at z p) (sym (own i))
-        (subst (Unfit t s plan at (t.refusal (r i))) (sym e) (unfit_at (r i) place n d.size d.reached (subst (λ h. Stands h (drop place s) n d.size) (sym (numbers i)) d.stands) f))),
+        (subst (Unfit t s plan at (t.refusal (r i))) (sym e) (unfit_at (r i) place n d.size d.reached (subst (λ h. Stands h (drop place s) n d.size) (sym (numbers i)) d.stands) (sym (tests i n) ∙ f)))),
   )
 
 -- the same of the flags, which are due at the leaf's first byte alone
 module _ {Role A V : Type 0} (t : Table Role) (s : List ℕ) (flags : Role) (bound : Bool → Plan Role (Option V)) (k : Bounds V → Plan Role A) (at : ℕ) where
-  pub unfit_flags : (m : ℕ) → m ≡ t.refusal flags → t.shape flags ≡ byte → t.named flags at ≡ at → ((n : Bool) → Numbered t (bound n)) → ((b : Bounds V) → Numbered t (k b)) →
-      ((q : Role) → m ≡ t.refusal q → q ≡ flags) → (p : ℕ) → Unfit t s (then (head flags bound) k) at m p ↔ UnfitFlags t s (then (head flags bound) k) at flags p
-  unfit_flags m own shape named h g only p = (
+  pub unfit_flags : (test : ℕ → Bool) (m : ℕ) → ((f : ℕ) → test f ≡ t.fits flags f) → m ≡ t.refusal flags → t.shape flags ≡ byte → t.named flags at ≡ at → ((n : Bool) → Numbered t (bound n)) → ((b : Bounds V) → Numbered t (k b)) →
+      ((q : Role) → m ≡ t.refusal q → q ≡ flags) → (p : ℕ) → Unfit t s (then (head flags bound) k) at m p ↔ UnfitFlags t s (then (head flags bound) k) at test p
+  unfit_flags test m tests own shape named h g only p = (
     (λ u.
         let e = only u.field u.refusal_is in
         let d = only_first t s flags bound k at u.field u.place h g (ap t.shape e ∙ shape) u.reached in
         let w = subst (λ z. Stands z (drop u.place s) u.value u.size) (ap t.shape e ∙ shape) u.stands in (
           u.named_is ∙ ((λ i. t.named (e i) (d i)) ∙ named),
-          (u.value, subst (λ z. drop z s ≡ u.value ∷ drop 1 (drop z s)) d w.0, sym (ap (λ q. t.fits q u.value) e) ∙ u.unfit),
+          (u.value, subst (λ z. drop z s ≡ u.value ∷ drop 1 (drop z s)) d w.0, tests u.value ∙ (sym (ap (λ q. t.fits q u.value) e) ∙ u.unfit)),
         )),
     (λ (e, (f, d, u)).
         subst (λ z. Unfit t s (then (head flags bound) k) at z p) (sym own)
         (subst (Unfit t s (then (head flags bound) k) at (t.refusal flags)) (named ∙ sym e)
-        (unfit_at t s (then (head flags bound) k) at flags at f 1 (inl (inl (inl (refl, refl)))) (subst (λ z. Stands z (drop at s) f 1) (sym shape) (d, refl)) u))),
+        (unfit_at t s (then (head flags bound) k) at flags at f 1 (inl (inl (inl (refl, refl)))) (subst (λ z. Stands z (drop at s) f 1) (sym shape) (d, refl)) (sym (tests f) ∙ u)))),
   )

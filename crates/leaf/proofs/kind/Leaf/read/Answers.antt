@@ -33,6 +33,12 @@ returns-clause-judged g c = answers_stand g.Self.Leaf.kind g.met.Self.Leaf.lawfu
 pub returns-clause-grammar : goal.returns-clause-grammar
 returns-clause-grammar g c = leaf_grammar g.Self.Leaf.kind g.met.Self.Leaf.lawfully
 
+pub returns-in_err-read_fields-clause-refusals : goal.returns-in_err-read_fields-clause-refusals
+returns-in_err-read_fields-clause-refusals g c = g.met.Self.Leaf.lawfully.refusals c.args.sheet.now
+
+pub returns-clause-refusals : goal.returns-clause-refusals
+returns-clause-refusals g c = g.met.Self.Leaf.lawfully.refusals c.args.sheet.now
+
 pub returns-clause-within : goal.returns-clause-within
 returns-clause-within g c = let w = fills_well g.Self.Leaf.kind g.met.Self.Leaf.lawfully c.args.sheet.now c.args.start c.args.place.now c.read_fields.new.place c.at.result (returns-clause-reads g c) in (w.1, w.2)
 
