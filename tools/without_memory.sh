@@ -1,7 +1,7 @@
 #!/bin/sh
 # Calls that take memory, with each of their allocations failing in turn (`rt try --fail-alloc`): the tests of crates/memory_tests, and each program on a short input.
-# A run that a failure reaches must end by itself and with an error, what it printed before being the beginning of what it prints else; the first that none
-# reaches must end without one. `tools/without_memory.sh NAME..` tries these crates alone. All take about half an hour, since each run is built anew.
+# A run must end by itself, either with an error, what it printed before being the beginning of what it prints else, or with just what it prints else: std's `collect`
+# does without room that it asked for in vain. `tools/without_memory.sh NAME..` tries these crates alone. All take about half an hour, since each run is built anew.
 cd "$(dirname "$0")/../crates" || exit 1
 made=$(mktemp -d)
 trap 'rm -rf "$made"' EXIT
@@ -25,10 +25,10 @@ try_program() {
         (cd "$1" && rt try --fail-alloc "$n" <"$made/stdin" >"$made/out" 2>"$made/said")
         status=$(status_of "$made/said")
         if [ "$status" = 0 ]; then
-            all=$(sed -n 's/^allocations: //p' "$made/said")
-            [ "$n" -gt "$all" ] || tell "$1: allocation $n of $all fails, and the run does not"
             cmp -s "$made/whole" "$made/out" || tell "$1: allocation $n: another answer"
-            break
+            [ "$n" -gt "$(sed -n 's/^allocations: //p' "$made/said")" ] && break
+            n=$((n + 1))
+            continue
         fi
         [ "$status" = 1 ] || tell "$1: allocation $n: $(tail -n 1 "$made/said")"
         head -c "$(wc -c <"$made/out")" "$made/whole" | cmp -s - "$made/out" || tell "$1: allocation $n: prints something else"
