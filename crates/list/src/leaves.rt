@@ -24,16 +24,16 @@ pub struct Leaves<'a, V, L> {
     // Nothing came since the last reading.
     canonical: bool,
     values: PhantomData<V>,
-    ghost within: { held ≤ length table.now },
 }
 
-// Joins, then drops: what is left in front are the lines.
-fn read_held<V: Copy, L: Leaf<V>>(held: &mut [L]) -> usize
-    ensures fewer { result ≤ length held.old }
-    ensures lines { take result held.new ≡ reading L.kind held.old }
+// Joins the leaves held in front in the table, then drops: what is left in front are the lines.
+fn read_held<V: Copy, L: Leaf<V>>(table: &mut [L], held: usize) -> usize
+    requires { held ≤ length table.old }
+    ensures places { length table.new ≡ length table.old }
+    ensures lines { take result table.new ≡ reading L.kind (take held table.old) }
 {
-    let merged = merge_held(held);
-    drop_covered(&mut held[..merged])
+    let merged = merge_held(&mut table[..held]);
+    drop_covered(&mut table[..merged])
 }
 
 impl<'a, V: Copy, L: Leaf<V>> Leaves<'a, V, L> {
@@ -88,11 +88,20 @@ impl<'a, V: Copy, L: Leaf<V>> Leaves<'a, V, L> {
         self.accept(leaf, None)
     }
 
+    // How many leaves are held: the count, cut to the places of the table. So the type needs no invariant, and a caller's
+    // function may take a list and use it up.
+    fn held_count(&self) -> usize
+        ensures within { result ≤ places_of self.now }
+        ensures held { take result self.now.table.now ≡ held_of self.now }
+    {
+        self.held.min(self.table.len())
+    }
+
     // What is held.
     fn leaves(&self) -> &[L]
         ensures { result.now ≡ held_of self.now }
     {
-        &self.table[..self.held]
+        &self.table[..self.held_count()]
     }
 
     /// Whether a leaf that is held admits the value.
@@ -110,7 +119,7 @@ impl<'a, V: Copy, L: Leaf<V>> Leaves<'a, V, L> {
         ensures answer { result ≡ answer_of L.kind (seen_of self.old) call_empty }
         ensures run { LeadsOn L.kind call_empty self.old self.new }
     {
-        self.held == 0
+        self.held_count() == 0
     }
 
     // A reading, unless nothing came since the last.
@@ -120,7 +129,8 @@ impl<'a, V: Copy, L: Leaf<V>> Leaves<'a, V, L> {
         ensures read { self.new.canonical ≡ true }
     {
         if !self.canonical {
-            self.held = read_held(&mut self.table[..self.held]);
+            let held = self.held_count();
+            self.held = read_held(self.table, held);
             self.canonical = true;
         }
     }
@@ -140,7 +150,7 @@ impl<'a, V: Copy, L: Leaf<V>> Leaves<'a, V, L> {
         ensures promises { KeepsPromises L.kind self.old self.new }
     {
         self.settle();
-        self.held
+        self.held_count()
     }
 
     /// Line n, counted from 0, into the caller's place; false, and the place as it was, where n is at or past the count.
