@@ -11,6 +11,7 @@ use Rattle.amounts.specs.Rules.{admitted, both_at_most, step}
 use Rattle.amounts.specs.Leaves.{barred, leaf_of, is_bound, is_window, required}
 use Rattle.amounts.specs.Layout.{Made, Role, Written, amount_layout}
 use Rattle.amounts.specs.Grammar.{AmountRefusals}
+use Rattle.amounts.specs.Words.{Meant, value_of}
 
 -- bounds that are amounts, minimum at most maximum, a folded and a thinned list
 abbrev pub is_lawful : AmountLeaf → Bool
@@ -38,5 +39,6 @@ amounts = record {
   Written = Written;
   Made = Made;
   layout = λ b. amount_layout;
+  Meant = λ w v. Meant (value_of w.low) (value_of w.high) w.rest.0 w.rest.1 v;
   Refusals = AmountRefusals;
 }

@@ -3,6 +3,7 @@ pub mod Rules
 pub mod Leaves
 pub mod Making
 pub mod Layout
+pub mod Words
 pub mod Amounts
 pub mod Grammar
 pub mod Meaning

@@ -20,7 +20,7 @@ use Rattle.amounts.specs.Rules.{admitted, both_at_most, step}
 use Rattle.amounts.specs.Values.{incremented, is_amount, is_on_grid}
 use Rattle.amounts.specs.Makes.{lawful_leaf}
 use Rattle.amounts.specs.Nexts.{le_of, lt_of, next_grid, next_least, next_none, of_le, of_lt}
-use Rattle.amounts.specs.Laws.Layout.{blank_lawful, layout_laws, written_lawful, refusals}
+use Rattle.amounts.specs.Laws.Layout.{blank_lawful, layout_laws, written_lawful, leaf_meant, refusals}
 use Rattle.amounts.specs.RulesLemmas.{admitted_means, admitted_step, both_parts, both_refl, both_total, both_trans, step_pos}
 
 le_total : (a b : ℤ) → int_le a b ≡ false → int_le b a ≡ true
@@ -197,5 +197,6 @@ amounts_laws = record {
   covers_admits = λ a b v p q h i. covers_admits a b v (parts a p) (parts b q) h i;
   layouts = λ b. layout_laws;
   written_lawful = λ b. written_lawful;
+  meant = λ b w v f p. leaf_meant w f v p;
   refusals = refusals;
 }

@@ -1,7 +1,8 @@
 ghost use Rattle.amounts.specs.Amounts.{amounts};
 ghost use Rattle.amounts.specs.Leaves.{barred, leaf_of, required};
 ghost use Rattle.amounts.specs.Making.{MakerJudged, made_of};
-ghost use Rattle.amounts.specs.Meaning.{Means, value_of};
+ghost use Rattle.amounts.specs.Meaning.{Means};
+ghost use Rattle.amounts.specs.Words.{value_of};
 ghost use Rattle.amounts.specs.Worked.{WorkedLeaves};
 ghost use Rattle.divisors.specs.Kept.{FoldedIn, ThinnedIn, barred_in, required_in};
 ghost use Rattle.divisors.specs.Written.{refusal_of};

@@ -1,5 +1,4 @@
 pub mod Texts
 pub mod WrittenDates
-pub mod Means
 pub mod Making
 pub mod Works

@@ -8,6 +8,7 @@ use Rattle.days.specs.Leaves.{is_bound, is_window, leaf_of}
 use Rattle.days.specs.Layout.{Made, Role, Written, day_layout}
 use Rattle.days.specs.Weekdays.{holds, is_set, next_day, is_on_grid}
 use Rattle.days.specs.Grammar.{DayRefusals}
+use Rattle.days.specs.Words.{Meant, value_of}
 
 -- bounds that are days, minimum at most maximum, a set of weekdays
 abbrev pub is_lawful : DayLeaf → Bool
@@ -34,5 +35,6 @@ days = record {
   Written = Written;
   Made = Made;
   layout = λ b. day_layout;
+  Meant = λ w d. Meant (value_of w.low) (value_of w.high) w.rest d;
   Refusals = DayRefusals;
 }

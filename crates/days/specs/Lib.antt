@@ -5,7 +5,9 @@ pub mod Making
 pub mod Layout
 pub mod Days
 pub mod Grammar
+pub mod Words
 pub mod Meaning
+pub mod Means
 pub mod Text
 pub mod Worked
 pub mod Shows

@@ -1,22 +1,15 @@
 -- A leaf admits what its bounds and its weekdays mean.
-use Rattle.std.proofs.Common.{◌≡◌, ℕ, ◌≤◌, ◌&&◌, nat_le, Some, None, Decides, Option, refl, subst, arith}
-use Rattle.std.proofs.lemmas.Bool.{and_from, and_parts, le-leb, leb-true}
+use Rattle.std.specs.Prelude.{ℕ, ◌&&◌, Option, nat_le}
+use Rattle.std.proofs.lemmas.Bool.{and_from, and_parts}
 use Rattle.leaf.specs.Numbers.{has_bit}
 use Rattle.leaf.specs.Kind.Ext.{value}
 use Rattle.leaf.specs.Kind.{ext_le, from, upto}
+use Rattle.leaf.specs.Laws.Limits.{nat_high, nat_low}
 use Rattle.days.specs.Calendar.{is_day_number, weekday}
 use Rattle.days.specs.Leaves.{leaf_of}
-use Rattle.days.specs.Meaning.{Means, WrittenMeans, value_of}
+use Rattle.days.specs.Meaning.{Means, WrittenMeans}
+use Rattle.days.specs.Words.{value_of}
 use Rattle.days.specs.Weekdays.{is_on_grid}
-
--- what a minimum and a maximum ask of a day
-low_of : (l : Option ℕ) (v : ℕ) → Decides (ext_le nat_le (from l) (value v)) ((x : ℕ) → l ≡ Some x → x ≤ v)
-low_of None v = (λ _ x e. let z : ◌≡◌ {A = ℕ} 0 1 = cc in absurd (omega arith), λ _. refl)
-low_of (Some u) v = (λ h x e. let k : u ≡ x = cc in subst (λ (y : ℕ). y ≤ v) k (leb-true u v h), λ f. le-leb u v (f u refl))
-
-high_of : (h : Option ℕ) (v : ℕ) → Decides (ext_le nat_le (value v) (upto h)) ((y : ℕ) → h ≡ Some y → v ≤ y)
-high_of None v = (λ _ x e. let z : ◌≡◌ {A = ℕ} 0 1 = cc in absurd (omega arith), λ _. refl)
-high_of (Some u) v = (λ h x e. let k : u ≡ x = cc in subst (λ (y : ℕ). v ≤ y) k (leb-true v u h), λ f. le-leb v u (f u refl))
 
 pub leaf_means : (low high : Option ℕ) (set : ℕ) → Means low high set (leaf_of low high set)
 unfolding is_on_grid
@@ -31,13 +24,13 @@ leaf_means low high set d =
           let z = and_parts day held y.1 in
           record {
             day = z.0;
-            minimum = λ u e. (low_of low d).0 x.0 u e;
-            maximum = λ u e. (high_of high d).0 y.0 u e;
+            minimum = λ u e. (nat_low low d).0 x.0 u e;
+            maximum = λ u e. (nat_high high d).0 y.0 u e;
             weekday = z.1;
           },
       λ w.
-          and_from from_low (to_high && (day && held)) ((low_of low d).1 w.minimum)
-          (and_from to_high (day && held) ((high_of high d).1 w.maximum) (and_from day held w.day w.weekday)),
+          and_from from_low (to_high && (day && held)) ((nat_low low d).1 w.minimum)
+          (and_from to_high (day && held) ((nat_high high d).1 w.maximum) (and_from day held w.day w.weekday)),
     )
 
 pub written_means : WrittenMeans

@@ -13,6 +13,8 @@ use Rattle.days.specs.Grid.{absent, grid_day, next_grid, next_least, next_none}
 use Rattle.days.specs.Sets.{holds_self, holds_trans, holds_anti, holds_has}
 use Rattle.days.specs.Lawful.{lawful_parts, same_window, window_lawful}
 use Rattle.days.specs.Laws.Layout.{layout_laws, written_lawful, refusals}
+use Rattle.days.specs.Means.{leaf_means}
+use Rattle.days.specs.Words.{value_of}
 
 total : (a b : ℕ) → nat_le a b ≡ false → nat_le b a ≡ true
 total a b h = le-leb b a (omega (arith, leb-false a b h))
@@ -77,5 +79,6 @@ days_laws = record {
   covers_admits = λ a b v p q h g. grid_holds a.weekdays b.weekdays v h g;
   layouts = λ b. layout_laws;
   written_lawful = λ b. written_lawful;
+  meant = λ b w d f p. leaf_means (value_of w.low) (value_of w.high) w.rest d;
   refusals = refusals;
 }

@@ -1,6 +1,7 @@
 ghost use Rattle.days.specs.Days.{days};
 ghost use Rattle.days.specs.Making.{MakerJudged, made_of};
-ghost use Rattle.days.specs.Meaning.{Means, value_of};
+ghost use Rattle.days.specs.Meaning.{Means};
+ghost use Rattle.days.specs.Words.{value_of};
 ghost use Rattle.days.specs.Worked.{WorkedDays};
 ghost use Rattle.faults.specs.Faults.{told};
 ghost use Rattle.leaf.specs.Kind.{Lawful};

@@ -74,7 +74,7 @@ impl Leaf<u32> for DayLeaf {
         b == KIND
     }
 
-    #[tactic(auto, using(crate::proofs::Means::written_means))]
+    #[tactic(auto, using(crate::specs::Means::written_means))]
     fn read_fields(reader: &mut Reader<'_>, place: &mut DayLeaf) -> Result<(), Fault>
         ensures reads { ReadsInto (leaf_at days) reader.old reader.new place.old place.new result }
         ensures means { WrittenMeans }

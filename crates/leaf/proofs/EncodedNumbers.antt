@@ -1,7 +1,7 @@
 -- What is read as a number stands there as its encoding.
 use Rattle.std.proofs.Common.{◌≡◌, ℕ, ◌+◌, ◌-◌, ◌≤◌, ◌⊎◌, List, ◌++◌, length, take, drop, drop-drop, sym, ap, ◌∙◌, subst, inl, inr, arith}
 use Rattle.std.proofs.lemmas.List.{take-append-drop, length-drop}
-use Rattle.faults.specs.Faults.{Answer, found}
+use Rattle.faults.specs.Faults.{found}
 use Rattle.leaf.specs.Encoding.{Bytes, CutShort, IsEncoded, Overlong, Written, encode}
 use Rattle.leaf.specs.Numbers.{groups_of, judged}
 use Rattle.leaf.specs.Laws.Encodes.{one_to_one}

@@ -1,5 +1,5 @@
 -- What a kind of leaf means, and the laws that it shows. A leaf is a window of values with a rule.
-use Rattle.std.specs.Prelude.{◌≡◌, ℕ, Bool, true, false, cond, not, ◌&&◌, ◌||◌, ◌⊎◌, List, [], ◌∷◌, Some, None, Option}
+use Rattle.std.specs.Prelude.{◌≡◌, ℕ, Bool, true, false, cond, not, ◌&&◌, ◌||◌, ◌⊎◌, List, [], ◌∷◌, Some, None, Decides, Option}
 use Rattle.faults.specs.Faults.{Answer}
 use Rattle.leaf.specs.Layouts.{Layout, LayoutLaws, is_written_window, leaf_under, written_leaf}
 
@@ -32,6 +32,8 @@ pub record Kind (V L : Type 0) : Type 1 where
   pub Written : Type 0
   pub Made : Type 0
   pub layout : ℕ → Layout Role Written Made L
+  -- whether a leaf as written means a value, in the kind's own words
+  pub Meant : Written → V → Type 0
   -- of a sheet: which field, which test and which byte is meant by each of the refusals 4 to 9 but 8, in the kind's own words
   pub Refusals : List ℕ → Type 0
 
@@ -173,5 +175,7 @@ module _ {V L : Type 0} (k : Kind V L) where
     -- each layout shows its laws, and makes lawful leaves
     pub layouts : (b : ℕ) → LayoutLaws (k.layout b)
     pub written_lawful : (b : ℕ) (w : k.Written) → (k.layout b).fits w ≡ true → is_written_window (k.layout b) w ≡ true → Lawful (written_leaf (k.layout b) w)
+    -- a leaf admits exactly the values that it means as it is written
+    pub meant : (b : ℕ) (w : k.Written) (v : V) → (k.layout b).fits w ≡ true → k.is_value v ≡ true → Decides (admits (written_leaf (k.layout b) w) v) (k.Meant w v)
     -- and the kind's words are true of every sheet
     pub refusals : (s : List ℕ) → k.Refusals s

@@ -1,5 +1,6 @@
 -- What the laws of a kind rest on: windows, the numbers, the fields and the plans of a sheet.
 pub mod Hulls
+pub mod Limits
 pub mod Orders
 pub mod Deciding
 pub mod Made

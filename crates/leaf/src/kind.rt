@@ -1,5 +1,5 @@
 ghost use Rattle.faults.specs.Faults.{Fills};
-ghost use Rattle.leaf.specs.Grammar.{AnswersStand, LeafGrammar};
+ghost use Rattle.leaf.specs.Grammar.{AnswersStand, LeafGrammar, ReadMeans};
 ghost use Rattle.leaf.specs.Kind.{Kind, Lawful, Laws, before, leaf_at, touches};
 ghost use Rattle.leaf.specs.Kind.{admits as admitted, covers as covering};
 ghost use Rattle.leaf.specs.Reading.{ReadsInto};
@@ -65,6 +65,7 @@ pub trait Leaf<V: Copy>: Copy {
         ensures reads { Fills (leaf_at kind sheet.now start) place.old place.new result }
         ensures judged { AnswersStand kind sheet.now start }
         ensures grammar { LeafGrammar kind }
+        ensures means { ReadMeans kind }
         ensures refusals { kind.Refusals sheet.now }
         ensures within { IfOk result (λ end. (start < end) × (end ≤ length sheet.now)) }
         ensures lawful { OnOk result (Lawful kind place.new) }

@@ -46,5 +46,6 @@ closed k = record {
   Written = ⊥;
   Made = ⊤;
   layout = λ b. no_layout (closed_on k.blank None);
+  Meant = λ w v. ⊥;
   Refusals = λ s. ⊤;
 }

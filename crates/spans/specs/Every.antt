@@ -1,17 +1,19 @@
 -- Windows of every day show the laws of a kind.
-use Rattle.std.specs.Prelude.{◌≡◌, ℕ, ◌+◌, ◌^◌, ◌≤◌, Bool, true, false, ◌&&◌, leb, [], ◌∷◌, Some, None, Option, ⊤, nat_le, refl}
+use Rattle.std.specs.Prelude.{◌≡◌, ℕ, ◌+◌, ◌^◌, ◌≤◌, Bool, true, false, ◌&&◌, leb, [], ◌∷◌, Some, None, Decides, Option, ⊤, nat_le, refl}
 use Rattle.std.proofs.Common.{sym, ap, ◌∙◌, arith}
-use Rattle.std.proofs.lemmas.Bool.{and_from, cond_both, le-leb, leb-false, leb-true, lt-leb, ltb-false, ltb-true}
-use Rattle.leaf.specs.Kind.{Joins, Laws, Lawful, is_value_window, is_window_of, ext_le, from, upto}
+use Rattle.std.proofs.lemmas.Bool.{and_from, and_parts, cond_both, le-leb, leb-false, leb-true, lt-leb, ltb-false, ltb-true}
+use Rattle.leaf.specs.Kind.Ext.{value}
+use Rattle.leaf.specs.Kind.{Joins, Laws, Lawful, admits, is_value_window, is_window_of, ext_le, from, upto}
 use Rattle.leaf.specs.Layouts.{LayoutLaws, is_of_field, is_written_window, written_leaf}
 use Rattle.leaf.specs.Windows.{written}
 use Rattle.leaf.specs.Headed.{WrittenLeaf}
 use Rattle.leaf.specs.Laws.Flags.{unsigned}
 use Rattle.leaf.specs.Laws.Headed.{HeadedLaws, fitting, headed_laws}
 use Rattle.leaf.specs.Laws.Hulls.{hull_window, joins_hull}
+use Rattle.leaf.specs.Laws.Limits.{nat_high, nat_low}
 use Rattle.leaf.specs.Laws.Parts.{Part, no_part}
 use Rattle.spans.specs.declared.span.Span.{Span}
-use Rattle.spans.specs.Spans.{Role, flags, day, day_plan, following, is_bound, is_day, span_fields, span_layout, span_table, spans}
+use Rattle.spans.specs.Spans.{Meant, Role, flags, day, day_plan, following, is_bound, is_day, span_fields, span_layout, span_table, spans}
 
 same_window : (x y : Option ℕ) → (is_bound x && (is_bound y && ext_le leb (from x) (upto y))) ≡ is_value_window spans x y
 same_window None None = refl
@@ -76,6 +78,20 @@ written_lawful w f t =
     let y = written (λ n. Some n) w.high in
     and_from (is_bound x) (is_bound y && ext_le leb (from x) (upto y)) (bounded w.low a) (and_from (is_bound y) (ext_le leb (from x) (upto y)) (bounded w.high b) t)
 
+-- a leaf as written admits the days that it means
+written_means : (w : WrittenLeaf ℕ ⊤) (v : ℕ) → is_day v ≡ true → Decides (admits spans (written_leaf span_layout w) v) (Meant (written (λ n. Some n) w.low) (written (λ n. Some n) w.high) v)
+written_means w v d =
+    let low = written (λ n. Some n) w.low in
+    let high = written (λ n. Some n) w.high in
+    let from_low = ext_le leb (from low) (value v) in
+    let to_high = ext_le leb (value v) (upto high) in (
+      λ t.
+          let x = and_parts from_low (to_high && is_day v) t in
+          let y = and_parts to_high (is_day v) x.1 in
+          record { minimum = (nat_low low v).0 x.0; maximum = (nat_high high v).0 y.0 },
+      λ m. and_from from_low (to_high && is_day v) ((nat_low low v).1 m.minimum) (and_from to_high (is_day v) ((nat_high high v).1 m.maximum) d),
+    )
+
 total : (a b : ℕ) → nat_le a b ≡ false → nat_le b a ≡ true
 total a b h = le-leb b a (omega (arith, leb-false a b h))
 
@@ -117,5 +133,6 @@ spans_laws = record {
   covers_admits = λ a b v p q h i. i;
   layouts = λ b. layout_laws;
   written_lawful = λ b. written_lawful;
+  meant = λ b w v f d. written_means w v d;
   refusals = λ s. tt;
 }

@@ -1,5 +1,5 @@
 -- Windows of every day: one rule, and every day on its grid.
-use Rattle.std.specs.Prelude.{ℕ, ◌+◌, ◌^◌, Bool, true, false, cond, ◌&&◌, leb, [], ◌∷◌, Some, None, Ok, Err, Option, Result, ⊤, ◌==◌, nat_lt}
+use Rattle.std.specs.Prelude.{◌≡◌, ℕ, ◌+◌, ◌^◌, ◌≤◌, Bool, true, false, cond, ◌&&◌, leb, [], ◌∷◌, Some, None, Ok, Err, Option, Result, ⊤, ◌==◌, nat_lt}
 use Rattle.faults.specs.Faults.{Refused, unplaced}
 use Rattle.leaf.specs.Fields.{Shape, byte, number}
 use Rattle.leaf.specs.Kind.{Kind, ext_le, from, is_window_of, upto}
@@ -7,7 +7,7 @@ use Rattle.leaf.specs.Headed.{Headed, MadeLeaf, WrittenLeaf, headed_layout, unsi
 use Rattle.leaf.specs.Layouts.{Layout}
 use Rattle.leaf.specs.Numbers.{are_flags}
 use Rattle.leaf.specs.Plans.{Table, Plan, done, ask, nothing, fits_if}
-use Rattle.leaf.specs.Windows.{hull_of}
+use Rattle.leaf.specs.Windows.{hull_of, written}
 use Rattle.spans.specs.declared.span.Span.{Span}
 
 abbrev pub is_day : ℕ → Bool
@@ -25,6 +25,11 @@ window x y = record { bounds = record { minimum = x; maximum = y } }
 -- the maker: refused 8 where the minimum is above the maximum
 abbrev pub made_of : Option ℕ → Option ℕ → Result Span Refused
 made_of x y = cond (is_window_of leb x y) (Ok (window x y)) (Err (unplaced 8))
+
+-- v is no earlier than the minimum and no later than the maximum, where they are there
+pub record Meant (low high : Option ℕ) (v : ℕ) : Type 0 where
+  pub minimum : (x : ℕ) → low ≡ Some x → x ≤ v
+  pub maximum : (y : ℕ) → high ≡ Some y → v ≤ y
 
 -- on a sheet: flags, and the number of each day that they name, below 2^32
 pub data Role : Type 0 where
@@ -87,5 +92,6 @@ spans = record {
   Written = WrittenLeaf ℕ ⊤;
   Made = MadeLeaf ℕ ⊤;
   layout = λ b. span_layout;
+  Meant = λ w v. Meant (written (λ n. Some n) w.low) (written (λ n. Some n) w.high) v;
   Refusals = λ s. ⊤;
 }

@@ -225,5 +225,6 @@ module _ {L : Type 0} (k : Kind ℕ L) (laws : Laws k) where
         and_from (not (is_shut a.closing.day v)) (k.rule_admits a.below v) (part_open a.closing.day b.closing.day v s.0 o.0) (laws.covers_admits a.below b.below v p q s.1 o.1);
     layouts = λ b. no_layout_laws (closed_on k.blank None);
     written_lawful = λ b w f t. absurd w;
+    meant = λ b w v f p. absurd w;
     refusals = λ s. tt;
   }

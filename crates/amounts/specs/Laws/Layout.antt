@@ -26,7 +26,8 @@ use Rattle.amounts.specs.Layout.{Role, flags, magnitude, count, part, Written, a
 use Rattle.amounts.specs.Leaves.{is_bound, is_window, leaf_of}
 use Rattle.amounts.specs.Makes.{lawful_leaf}
 use Rattle.amounts.specs.Making.{amount_in}
-use Rattle.amounts.specs.Meaning.{Means, WrittenMeans, value_of}
+use Rattle.amounts.specs.Meaning.{Means, WrittenMeans}
+use Rattle.amounts.specs.Words.{value_of}
 use Rattle.amounts.specs.Means.{leaf_means}
 use Rattle.amounts.specs.Values.{amount_of, is_amount}
 use Rattle.leaf.specs.Numbers.{are_flags}
@@ -192,11 +193,14 @@ written_lawful w f t =
     windowed (Some x) (Some y) p q r = and_from (is_amount x) (is_amount y && is_window (Some x) (Some y)) p (and_from (is_amount y) (is_window (Some x) (Some y)) q r)
 
 -- a leaf as written admits what is written
-pub written_means : WrittenMeans
-unfolding WrittenMeans
-written_means w f =
+pub leaf_meant : (w : Written) → amount_layout.fits w ≡ true → Means (value_of w.low) (value_of w.high) w.rest.0 w.rest.1 (written_leaf amount_layout w)
+leaf_meant w f =
     let (i, j) = and_parts (is_list w.rest.0) (is_list w.rest.1) (fitting amount_fields field_laws w f).2 in
     leaf_of_means (value_of w.low) (value_of w.high) w.rest.0 w.rest.1 (and_parts (are_in_range w.rest.0) (nat_le (length w.rest.0) 6) i).0 (and_parts (are_in_range w.rest.1) (nat_le (length w.rest.1) 6) j).0
+
+pub written_means : WrittenMeans
+unfolding WrittenMeans
+written_means = leaf_meant
 
 -- which fields give which refusal
 numbered_divisors : (k : ℕ) → Numbered amount_table (repeat divisor k)

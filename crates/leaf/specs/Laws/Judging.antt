@@ -1,11 +1,11 @@
 -- A leaf's reader by its layout: from few laws to what each of its answers says.
-use Rattle.std.specs.Prelude.{◌≡◌, ℕ, ◌+◌, ◌<◌, ◌≤◌, true, false, cond, ◌⊎◌, List, [], ◌∷◌, ◌++◌, length, drop, refl}
+use Rattle.std.specs.Prelude.{◌≡◌, ℕ, ◌+◌, ◌<◌, ◌≤◌, true, false, cond, ◌⊎◌, List, [], ◌∷◌, ◌++◌, length, drop, Decides, refl}
 use Rattle.std.proofs.Common.{drop-drop, sym, ap, ◌∙◌, subst, inl, inr, ⊎_elim, arith, length-drop}
 use Rattle.std.proofs.lemmas.Bool.{cond-true, cond-false, cases_Bool, true≢false}
 use Rattle.faults.specs.Faults.{Answer, Refused, found, refused, next, at_byte}
 use Rattle.leaf.specs.Encoding.{Bytes}
-use Rattle.leaf.specs.Kind.{Kind, Laws, first_of, Lawful, layout_of, leaf_at}
-use Rattle.leaf.specs.Grammar.{AnswersStand, LeafGrammar, WellRead}
+use Rattle.leaf.specs.Kind.{Kind, Laws, first_of, Lawful, admits, layout_of, leaf_at}
+use Rattle.leaf.specs.Grammar.{AnswersStand, LeafGrammar, ReadMeans, StandsFor, WellRead}
 use Rattle.leaf.specs.Plans.{made_at, Makes, Reached, EndsEarly, BadNumber, Unfit}
 use Rattle.leaf.specs.Layouts.{Layout, LayoutLaws, LeafJudged, LeafStands, OneAnswer, StandAsLeaf, StandInTurn, bytes_of, is_of_field, is_written_window, leaf_under, no_layout, written_leaf}
 use Rattle.leaf.specs.Laws.Writing.{found_refused}
@@ -224,6 +224,26 @@ module _ {V L : Type 0} (k : Kind V L) (laws : Laws k) where
           ⊎_elim
           (λ t. subst (WellRead k s at) (sym (cond-true (y.is_window m) (found (y.leaf m) e) (refused (at_byte 8 at)) t)) (subst (Lawful k) (ap y.leaf i) (laws.written_lawful (first_of s) w f (ap y.is_window i ∙ t)), l, r))
           (λ t. subst (WellRead k s at) (sym (cond-false (y.is_window m) (found (y.leaf m) e) (refused (at_byte 8 at)) t)) tt)
+          (cases_Bool (y.is_window m))
+
+  pub read_means : ReadMeans k
+  read_means s at x end = by (made_at (layout_of k s).table (layout_of k s).plan s at) (says (layout_of k s).table s (layout_of k s).plan at)
+    where
+      shown : LayoutLaws (layout_of k s)
+      shown = laws.layouts (first_of s)
+
+      by : (a : Answer k.Made) → Says (layout_of k s).table s (layout_of k s).plan at a → judge (layout_of k s) shown s at a ≡ found x end → StandsFor k s at x end
+      by (refused f) h q = absurd (found_refused (sym q))
+      by (found m e) h q =
+          let y = layout_of k s in
+          let (w, f, i, l) = shown.stood s at m e h in
+          ⊎_elim
+          (λ t.
+          let g = sym (cond-true (y.is_window m) (found (y.leaf m) e) (refused (at_byte 8 at)) t) ∙ q in
+          let j : e ≡ end = cc in
+          let n : y.leaf m ≡ x = cc in
+          (w, f, subst (StandAsLeaf s at (y.numbers w)) j l, λ v p. subst (λ (z : L). Decides (admits k z v) (k.Meant w v)) (ap y.leaf i ∙ n) (laws.meant (first_of s) w v f p)))
+          (λ t. absurd (found_refused (sym q ∙ cond-false (y.is_window m) (found (y.leaf m) e) (refused (at_byte 8 at)) t)))
           (cases_Bool (y.is_window m))
 
 -- of a kind without sheets

@@ -4,7 +4,8 @@ use Rattle.faults.specs.Faults.{Refused, then}
 use Rattle.amounts.specs.declared.amount_leaf.AmountLeaf.{AmountLeaf}
 use Rattle.amounts.specs.Leaves.{leaf_of}
 use Rattle.amounts.specs.Making.{after, amount_in, window_of}
-use Rattle.amounts.specs.Meaning.{Means, value_of}
+use Rattle.amounts.specs.Meaning.{Means}
+use Rattle.amounts.specs.Words.{value_of}
 use Rattle.amounts.specs.InRange.{amount_is}
 use Rattle.amounts.specs.Amounts.{amounts}
 use Rattle.leaf.specs.Laws.Made.{window_made}

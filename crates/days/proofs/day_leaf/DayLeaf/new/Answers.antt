@@ -4,12 +4,13 @@ use Rattle.leaf.specs.Laws.Orders.{nat_written}
 use Rattle.days.specs.Days.{days}
 use Rattle.days.specs.Leaves.{leaf_of}
 use Rattle.days.specs.Making.{numbered}
-use Rattle.days.specs.Meaning.{Means, value_of}
+use Rattle.days.specs.Meaning.{Means}
+use Rattle.days.specs.Words.{value_of}
 use Rattle.days.specs.Lawful.{window_lawful}
 use Rattle.days.specs.Dates.{day_small}
 use Rattle.days.proofs.Making.{maker_judged}
 use Rattle.days.proofs.Works.{worked_days}
-use Rattle.days.proofs.Means.{leaf_means}
+use Rattle.days.specs.Means.{leaf_means}
 use Rattle.days.proofs.day_leaf.DayLeaf.new.Goals as goal
 
 pub returns : goal.returns

@@ -3,7 +3,7 @@ use Rattle.std.specs.Prelude.{⊤}
 use Rattle.std.proofs.lemmas.Result.{err_from_is_err_and}
 use Rattle.faults.specs.declared.fault.Fault.{Fault}
 use Rattle.leaf.specs.Reading.{at_of, ended}
-use Rattle.leaf.specs.Laws.Judging.{answers_stand, leaf_grammar}
+use Rattle.leaf.specs.Laws.Judging.{answers_stand, leaf_grammar, read_means}
 use Rattle.leaf.specs.Laws.Slices.{bytes_held}
 use Rattle.leaf.proofs.Fills.{fills_from, fills_well}
 use Rattle.leaf.proofs.kind.Leaf.read.Goals as goal
@@ -32,6 +32,12 @@ returns-clause-judged g c = answers_stand g.Self.Leaf.kind g.met.Self.Leaf.lawfu
 
 pub returns-clause-grammar : goal.returns-clause-grammar
 returns-clause-grammar g c = leaf_grammar g.Self.Leaf.kind g.met.Self.Leaf.lawfully
+
+pub returns-in_err-read_fields-clause-means : goal.returns-in_err-read_fields-clause-means
+returns-in_err-read_fields-clause-means g c = read_means g.Self.Leaf.kind g.met.Self.Leaf.lawfully
+
+pub returns-clause-means : goal.returns-clause-means
+returns-clause-means g c = read_means g.Self.Leaf.kind g.met.Self.Leaf.lawfully
 
 pub returns-in_err-read_fields-clause-refusals : goal.returns-in_err-read_fields-clause-refusals
 returns-in_err-read_fields-clause-refusals g c = g.met.Self.Leaf.lawfully.refusals c.args.sheet.now
