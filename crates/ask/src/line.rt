@@ -1,6 +1,6 @@
-ghost use Rattle.ask.specs.Lines.{line_outcome};
+ghost use Rattle.ask.specs.Lines.{asks_amounts, line_outcome};
 ghost use Rattle.questions.specs.Outcomes.{said};
-ghost use Rattle.std.specs.Prelude.{◌≡◌, IfSome};
+ghost use Rattle.std.specs.Prelude.{◌≡◌, false, IfSome, Some};
 
 use crate::amount_line::{AmountFields, ask_amount};
 use crate::day_line::{DayFields, ask_day};
@@ -9,9 +9,11 @@ use notation::split_once;
 use questions::Objection;
 use std::alloc::Global;
 
-// What a line comes to: four fields with one space between ask about days, more about amounts.
+// What a line comes to: four fields with one space between ask about days, more about amounts. Only a question about amounts
+// takes memory.
 pub(crate) fn ask_line(heap: Global, line: &[u8]) -> Result<bool, Objection<Wrong>>
-    ensures { IfSome (said result) (λ o. o ≡ line_outcome line.now) }
+    ensures outcome { IfSome (said result) (λ o. o ≡ line_outcome line.now) }
+    ensures told { asks_amounts line.now ≡ false → said result ≡ Some (line_outcome line.now) }
 {
     let (minimum, line) = split_once(line, b' ').ok_or(Wrong::Fields)?;
     let (maximum, line) = split_once(line, b' ').ok_or(Wrong::Fields)?;

@@ -38,7 +38,7 @@ loop-k-preserved g c =
           line_outcome (g.W.Write.contents c.loop-k.out) (g.W.Write.contents c.report.new.out)
           was.answered was.refused was.malformed now.answered now.refused now.malformed (number c.loop-k.k-iterator) c.in-Some.k (number c.next.new.self)
           c.in-Some.line.now (left c.next.new.self) (left c.loop-k.k-iterator) (said c.ask_line.result) (counts_one (counts was) (counts now))
-          c.loop-k.invariant.left h.1 h.0.0 h.0.1 c.ask_line.ensures r.memory r.counts (r.written wrong_text (λ w. refl));
+          c.loop-k.invariant.left h.1 h.0.0 h.0.1 c.ask_line.ensures.outcome r.memory r.counts (r.written wrong_text (λ w. refl));
     }
 
 pub returns : goal.returns
