@@ -17,6 +17,10 @@ pub tidy_none : tidy_of [] ≡ []
 unfolding tidy_of
 tidy_none = refl
 
+pub no_item : (xs : List Fraction) → length xs ≡ 0 → xs ≡ []
+no_item [] h = refl
+no_item (x ∷ xs) h = absurd (omega (arith, h))
+
 pub one_item : (xs : List Fraction) (d : Fraction) → length xs ≡ 1 → xs ≡ slice_index_or xs 0 d ∷ []
 one_item [] d h = absurd (omega (arith, h))
 one_item (x ∷ []) d h = refl

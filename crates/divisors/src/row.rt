@@ -5,7 +5,7 @@ ghost use Rattle.divisors.specs.Lists.{at_most, every, sole_of, some, tidy_of};
 ghost use Rattle.divisors.specs.Rows.{fractions, padded};
 ghost use Rattle.divisors.specs.Written.{Admits, Spares, lowest_above, refusal_of_more};
 ghost use Rattle.faults.specs.Faults.{refused_with};
-ghost use Rattle.std.specs.Prelude.{◌≡◌, ◌≤◌, ◌↔◌, true, false, [], ◌∷◌, ◌++◌, length, IsTrue, OnErr, OnOk, unsigned_abs};
+ghost use Rattle.std.specs.Prelude.{◌≡◌, ◌≤◌, ◌↔◌, true, false, [], ◌∷◌, ◌++◌, length, IfSome, IsTrue, OnErr, OnOk, unsigned_abs};
 
 use crate::fraction::Fraction;
 use faults::{Fault, Refusal};
@@ -50,6 +50,19 @@ impl Row {
         Row {
             items: [f, NONE, NONE, NONE, NONE, NONE],
             count: 1,
+        }
+    }
+
+    // The row of a list of at most one divisor as written, likewise; none of a longer list.
+    pub(crate) fn short(ws: &[Fraction], above: u64) -> Option<Row>
+        ensures row { IfSome result (λ r. fractions r ≡ tidy_of (lowest_above above ws.now)) }
+        ensures few { IfSome result (λ r. length (fractions r) ≤ 1) }
+        ensures padded { IfSome result (λ r. padded r ≡ true) }
+    {
+        match ws {
+            [] => Some(Row::empty()),
+            [w] => Some(Row::single(*w, above)),
+            _ => None,
         }
     }
 

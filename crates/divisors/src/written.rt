@@ -38,15 +38,15 @@ pub(crate) fn check_list(ws: &[Fraction]) -> Result<(), Fault>
     check(ws, &[])
 }
 
-// The folded row of divisors as written. One alone, as most lists are, needs no working list.
+// The folded row of divisors as written. At most one, as most lists are, needs no working list.
 pub(crate) fn folded_row(ws: &[Fraction]) -> Row
     requires { (are_in_range ws.now ≡ true) × (length ws.now ≤ 6) }
     ensures folds { FoldOf ws.now (fractions result) }
     ensures kept { is_folded result ≡ true }
     ensures worked { WorkedFolds }
 {
-    if let [w] = ws {
-        return Row::single(*w, 1);
+    if let Some(row) = Row::short(ws, 1) {
+        return row;
     }
     let mut work = Working::of_written(ws, 1);
     work.fold();
@@ -59,8 +59,8 @@ pub(crate) fn thinned_row(ws: &[Fraction]) -> Row
     ensures thins { ThinOf ws.now (fractions result) }
     ensures kept { is_thinned result ≡ true }
 {
-    if let [w] = ws {
-        return Row::single(*w, 0);
+    if let Some(row) = Row::short(ws, 0) {
+        return row;
     }
     let mut work = Working::of_written(ws, 0);
     work.thin();

@@ -1,4 +1,4 @@
-use Rattle.std.proofs.Common.{◌≡◌, List, sym, ap, ◌∙◌, subst, arith}
+use Rattle.std.proofs.Common.{List, sym, subst}
 use Rattle.std.proofs.lemmas.Bool.{and_from}
 use Rattle.divisors.specs.declared.fraction.Fraction.{Fraction}
 use Rattle.divisors.specs.Folding.{FoldsTo}
@@ -7,18 +7,16 @@ use Rattle.divisors.specs.Settled.{settled}
 use Rattle.divisors.specs.Written.{over_integers}
 use Rattle.divisors.specs.Lawful.{worked_folds}
 use Rattle.divisors.specs.Lemmas.Makes.{fold_of_lem, fold_settles}
-use Rattle.divisors.proofs.Single.{folds_short, one_item}
+use Rattle.divisors.proofs.Single.{folds_short}
 use Rattle.divisors.proofs.written.folded_row.Goals as goal
 
-pub returns-in-len1 : goal.returns-in-len1
-returns-in-len1 c =
+pub returns-in-Some : goal.returns-in-Some
+returns-in-Some c =
     let ws = c.args.ws.now in
-    let r = c.single.result in
-    let one = one_item ws _ (omega (arith, c.in-len1.len_at_least, c.in-len1.len_below)) in
-    let row : fractions r ≡ over_integers ws = c.single.ensures.row ∙ ap over_integers (sym one) in
-    let steps = subst (λ (ys : List Fraction). FoldsTo ys (fractions r)) row (folds_short (fractions r) c.single.ensures.few) in
+    let r = c.in-Some.row in
+    let steps = subst (λ (ys : List Fraction). FoldsTo ys (fractions r)) c.in-Some.ensures.row (folds_short (fractions r) c.in-Some.ensures.few) in
     let folds = fold_of_lem ws (fractions r) c.requires.0 steps in
-    record { folds = folds; kept = and_from (padded r) (settled (fractions r)) c.single.ensures.padded (fold_settles ws (fractions r) c.requires.0 folds); worked = worked_folds }
+    record { folds = folds; kept = and_from (padded r) (settled (fractions r)) c.in-Some.ensures.padded (fold_settles ws (fractions r) c.requires.0 folds); worked = worked_folds }
 
 pub returns : goal.returns
 returns c =
