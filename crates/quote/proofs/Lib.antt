@@ -1,5 +1,6 @@
 mod Accepting
 mod Listing
 mod Quoting
+mod Remarks
 mod Telling
 mod Turns

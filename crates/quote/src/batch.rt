@@ -5,6 +5,7 @@ ghost use Rattle.quote.specs.Taking.{Completes, Follows, Holds, SameNotes, Stand
 ghost use Rattle.std.specs.Option.{option_map};
 ghost use Rattle.std.specs.Prelude.{◌≡◌, ℕ, ◌<◌, ◌^◌, List, [], ◌∷◌, ◌++◌, length, IfOk, OnErr, OnOk, vec_items};
 
+use crate::remark::{MalformedLine, RefusedSheet};
 use amounts::AmountLeaf;
 use days::DayLeaf;
 use hex_text::read_hex;
@@ -39,19 +40,18 @@ impl Taken {
     }
 
     // Counts line `k`, which is not hexadecimal.
-    fn note_malformed(&mut self, heap: Global, k: usize) -> Result<(), AllocError>
+    fn note_malformed(&mut self, k: usize) -> Result<(), AllocError>
         ensures counts { OnOk result (self.new ≡ record self.old { malformed = sum_to self.old.malformed 1; remarks = self.new.remarks }) }
         ensures remarks { OnOk result (vec_items self.new.remarks ≡ vec_items self.old.remarks ++ malformed_remark k) }
         ensures err { OnErr result (SameNotes self.old self.new) }
     {
-        let remark = format!(in heap; "line {k}: not hexadecimal\n")?;
-        self.remarks.extend_from_slice(remark.as_bytes())?;
+        append_line(&mut self.remarks, &MalformedLine { number: k })?;
         self.malformed = self.malformed.saturating_add(1);
         Ok(())
     }
 
     // Counts the sheet of line `k`, and remarks what refused it.
-    fn note_sheet(&mut self, heap: Global, k: usize, answer: SheetAnswer) -> Result<(), AllocError>
+    fn note_sheet(&mut self, k: usize, answer: SheetAnswer) -> Result<(), AllocError>
         ensures sheets { OnOk result (self.new.sheets ≡ sum_to self.old.sheets 1) }
         ensures accepted { OnOk result (self.new.accepted ≡ sum_to self.old.accepted answer.accepted) }
         ensures refused { OnOk result (self.new.refused ≡ one_more_if (stopped answer.fault) self.old.refused) }
@@ -61,9 +61,12 @@ impl Taken {
     {
         let sheet = self.sheets.saturating_add(1);
         if let Some(fault) = answer.fault {
-            let mut remark = format!(in heap; "sheet {sheet} on line {k}: ")?.into_bytes();
-            append_line(&mut remark, &fault)?;
-            self.remarks.extend_from_slice(&remark)?;
+            let refused = RefusedSheet {
+                number: sheet,
+                line: k,
+                fault,
+            };
+            append_line(&mut self.remarks, &refused)?;
             self.refused = self.refused.saturating_add(1);
         }
         self.sheets = sheet;
@@ -109,11 +112,11 @@ fn take_line(
     ensures err { OnErr result (SameNotes taken.old taken.new) }
 {
     match bytes_in(heap, line)? {
-        None => taken.note_malformed(heap, k),
+        None => taken.note_malformed(k),
         Some(sheet) if sheet.is_empty() => Ok(()),
         Some(sheet) => {
             let answer = take_sheet(&sheet, amounts, days);
-            taken.note_sheet(heap, k, answer)
+            taken.note_sheet(k, answer)
         }
     }
 }

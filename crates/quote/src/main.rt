@@ -7,6 +7,7 @@ ghost use Rattle.std.specs.Prelude.{◌++◌, OnOk, vec_items};
 
 mod batch;
 mod lists;
+mod remark;
 
 use crate::batch::{Taken, take_batch};
 use crate::lists::write_lines;
