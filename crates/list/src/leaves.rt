@@ -29,6 +29,7 @@ pub struct Leaves<'a, V, L> {
 // Joins the leaves held in front in the table, then drops: what is left in front are the lines.
 fn read_held<V: Copy, L: Leaf<V>>(table: &mut [L], held: usize) -> usize
     requires { held ≤ length table.old }
+    ensures fewer { result ≤ held }
     ensures places { length table.new ≡ length table.old }
     ensures lines { take result table.new ≡ reading L.kind (take held table.old) }
 {
